@@ -8,9 +8,9 @@ it stood, one stream after another or in threads, in any portions. Its board's d
 replaced as a whole or not at all: after a refusal, where it can't be written, where its size is limited, where a call of
 the system fails and where the program is killed it is what it was before, or the whole new checkpoint; of two calls at a
 time, the one held before each call of the system (tests/hold_calls.c), neither undoes the other. `--save-to` never takes
-the place of an input, a device, a pipe or a folder, and follows no link but that of its own name. With `--progress` a run
-that is held for a second tells how far its streams are. With --keeping what concerns files alone is tried; root tries that
-once more as another user. The last line is 'N passed, M failed': one a check.
+the place of an input, a device, a pipe or a folder, and follows no link but that of its own name. By a clock that goes on
+each time it is read (tests/step_clock.c) it is known what a run tells of its way, into files and on terminals of two
+widths (tests/terminal.py). With --keeping what concerns files alone is tried; root tries that once more as another user. The last line is 'N passed, M failed': one a check.
 """
 import os
 import random
@@ -26,6 +26,7 @@ import time
 from itertools import dropwhile
 
 import preloaded
+import terminal
 from model import checkpoint, making, program
 from model.board import Board
 
@@ -176,6 +177,31 @@ def only_some(room, r, rounds=20):
     yield f"{rounds} checkpoints moved on a stream at a time, the other as it stood", alike == 3 * rounds
 
 
+def up_to_positions(room, r, rounds=20):
+    """Feeds that end at positions leave what feeds leave that were cut there, and go on from there."""
+    feeds, done, three = two_feeds(r, 12), (0, b"", b""), ("workflow", "lower", "upper")
+    room.put(workflow=making.workflow("-80", "80-"), **feeds(12))
+    assert room.follow() == done
+    ended, alike, moved = room.get("kept"), 0, 0
+    for _ in range(rounds):
+        one, other = r.randrange(13), r.randrange(13)
+        room.put(lower=feeds(one)["lower"], upper=feeds(other)["upper"])
+        assert room.follow() == done
+        wanted, dump = room.get("kept"), room.run("run", *three)
+        room.put(**feeds(12))
+        counts = ((0, making.U, one), (1, making.V, other))
+        until = [f"--until={s}={uuid.decode()}:1-{n}" if n else f"--until={s}=" for s, uuid, n in counts]
+        how = [*r.choice(ENDS), *r.choice([[], ["--alone"]])]
+        alike += room.follow(*until, *how) == done and room.get("kept") == wanted and room.run("run", *until, *how, *three) == dump
+        moved += room.follow("--checkpoint=kept", *r.choice([[], until[1:] * (other == 12)])) == done and room.get("kept") == ended
+    yield f"{rounds} pairs of positions leave what feeds leave that end there", alike == rounds
+    yield "and what they leave goes on to the feeds' ends", moved == rounds
+    until = f"--until=0={making.U.decode()}:1-3"
+    yield "a checkpoint that stands further on is refused", room.follow("--checkpoint=kept", until) == (1, b"", b"refused 118 stream 0\n") and room.get("kept") == ended
+    room.put(**feeds(2))
+    yield "and so is a feed that doesn't reach its position", room.follow(until) == (1, b"", b"refused 128 stream 0\n") and room.get("kept") == ended
+
+
 # ---- refusals
 
 
@@ -183,7 +209,6 @@ def refused(room, r):
     feeds = two_feeds(r, 6)
     flow = making.workflow("-80", "80-")
     room.put(workflow=flow, kept=OLD, **feeds(6))
-    room.put(clash=making.feed([making.added((100, b"x"))] * 1, making.V))
     saved = room.run("save", "workflow", "lower", "upper", stdin=b"offer 0 1\nadvance 0\nopen 0 1\ncopy 0 1\n")[1]
     other = two_feeds(r, 6)(6)["lower"]
     bad = {
@@ -202,7 +227,8 @@ def refused(room, r):
         said = room.follow("--checkpoint=checkpoint", "--dump")
         yield f"{title} is refused as elsewhere", said == wanted and said[0] == 1 and said[1] == b""
         yield f"{title} costs no file", room.left_beside() == ["kept"] and room.get("kept") == OLD
-    room.put(workflow=flow, **feeds(6) | {"upper": room.get("clash")})
+    one_row = [making.added((100, b"x"))]
+    room.put(workflow=flow, lower=making.feed(one_row), upper=making.feed(one_row, making.V))
     said = room.run("follow", "--alone", "--save-to", "kept", "workflow", "lower", "upper")
     wanted = room.run("run", "--alone", "workflow", "lower", "upper")
     yield "a row in the way is refused as by run", said == wanted and said[2].startswith(b"refused 71 ")
@@ -513,34 +539,130 @@ def killed_at_each(room, r):
 
 # ---- progress
 
-
-def held(room, words, seconds):
-    """Runs the program, holds it for a while and lets it go on; answers what it printed."""
-    ran = subprocess.Popen([room.built, *words], cwd=room.place, stdout=subprocess.PIPE, stderr=subprocess.PIPE)
-    time.sleep(seconds)
-    ran.send_signal(signal.SIGSTOP)
-    time.sleep(1.1)
-    ran.send_signal(signal.SIGCONT)
-    out, err = ran.communicate(timeout=SECONDS)
-    return ran.returncode, out, err
+GROUPS = 4000
+LINE = r"\d+ %, \d+ of {of} groups, \d+ groups a second, \d+:\d\d gone(, \d+:\d\d to come)?"
+ERASED = "\r\x1b[K"
 
 
-def progress(room, r, rounds=30):
-    feeds, lines = two_feeds(r, 4000), re.compile(rb"(stream [01]: [1-9][0-9]{0,3} of 4000 groups\n)+")
-    room.put(workflow=making.workflow("-80", "80-"), **feeds(4000))
-    wanted = room.run("run", "workflow", "lower", "upper")
-    assert room.follow()[0] == 0
-    kept = room.get("kept")
-    for words, dump in ((["run"], wanted[1]), (["follow", "--save-to", "kept"], b"")):
-        room.put(kept=OLD)
-        for _ in range(rounds):
-            said = held(room, [*words, "--progress", "workflow", "lower", "upper"], r.random() * 0.3)
-            if said[:2] != (0, dump) or said[2]:
-                break
-        yield f"a long {words[0]} tells how far its streams are", said[:2] == (0, dump) and lines.fullmatch(said[2])
-    yield "and leaves the same bytes", room.get("kept") == kept
-    said = held(room, ["run", "workflow", "lower", "upper"], 0.05)
-    yield "without the word nothing is told", said == wanted
+def with_steps(room, milliseconds, **more):
+    """The environment of a program whose clock goes on by so much each time it is read."""
+    return {**os.environ, "LD_PRELOAD": preloaded.library(room.place, "step_clock"), "STEP_CLOCK": str(milliseconds), "TERM": "xterm", **more}
+
+
+def clock(milliseconds):
+    seconds = milliseconds // 1000
+    return f"{seconds // 60}:{seconds % 60:02}" if seconds < 3600 else f"{seconds // 3600}:{seconds // 60 % 60:02}:{seconds % 60:02}"
+
+
+def lines_of_steps(step, streams, of, pause):
+    """What is told of so many groups that are read one after another, where each reading of the clock is a step behind the
+    one before: one was read before the streams are told of, one for each of these, and one for each group."""
+    said, told = [], 0
+    for done in range(1, of + 1):
+        gone, run = step * (streams + done), step * done
+        if gone // pause > told:
+            told = gone // pause
+            line = f"{100 * done // of} %, {done} of {of} groups, {1000 * done // run} groups a second, {clock(gone)} gone"
+            said.append(f"{line}, {clock(run * (of - done) // done)} to come")
+    return said
+
+
+def last_line(room, dump):
+    """What `follow` tells at last, by what `status` says of its checkpoint."""
+    places = re.findall(rb" at (\S+)$", room.run("status", "kept")[1], re.MULTILINE)
+    rows = len(re.findall(rb"^x", dump, re.MULTILINE))
+    return b"followed 2 streams: %d groups, %d rows, at %s, at %s\n" % (2 * GROUPS, rows, *places[:2])
+
+
+def progress(room, r):
+    feeds = two_feeds(r, GROUPS)
+    room.put(workflow=making.workflow("-80", "80-"), **feeds(GROUPS))
+    names = ["workflow", "lower", "upper"]
+    wanted = room.run("run", *names)
+    assert wanted[0] == 0 and room.follow() == (0, b"", b"")
+    kept, last, stepped = room.get("kept"), last_line(room, wanted[1]), with_steps(room, 100)
+    lines = "".join(f"{it}\n" for it in lines_of_steps(100, 2, 2 * GROUPS, 60000)).encode()
+    assert lines.count(b"\n") == 13
+    each = re.compile(f"({LINE.format(of=2 * GROUPS)}\n)*".encode())
+    follow = ["follow", "--save-to=kept"]
+    yield "without the word nothing is told into a file", room.run("run", *names, env=stepped) == wanted and room.run(*follow, *names, env=stepped) == (0, b"", b"")
+    yield "with --quiet neither", room.run("run", "--progress", "--quiet", *names, env=stepped) == wanted
+    yield "a run tells each minute, one stream after another", room.run("run", "--alone", "--progress", *names, env=stepped) == (0, wanted[1], lines)
+    said = room.run("run", "--progress", *names, env=stepped)
+    yield "and in threads", said[:2] == wanted[:2] and each.fullmatch(said[2]) and said[2].count(b"\n") in (12, 13)
+    room.put(kept=OLD)
+    yield "follow tells the same, and where it stands", room.run(*follow, "--alone", "--progress", *names, env=stepped) == (0, b"", lines + last) and room.get("kept") == kept
+    said = room.run(*follow, "--progress", "--dump", *names, env=stepped)
+    yield "and in threads", said[:2] == wanted[:2] and said[2].endswith(last) and each.fullmatch(said[2].removesuffix(last)) and room.get("kept") == kept
+    of_one = "".join(f"{it}\n" for it in lines_of_steps(100, 1, GROUPS, 60000)).encode()
+    said = room.run(*follow, "--only=1", "--progress", *names, env=stepped)
+    yield "of one stream alone", said[:2] == (0, b"") and said[2].startswith(of_one + b"followed 2 streams: 4000 groups, ") and said[2].count(b"\n") == of_one.count(b"\n") + 1
+    room.put(**feeds(GROUPS - 1000))
+    assert room.follow() == (0, b"", b"")
+    room.put(**feeds(GROUPS))
+    of_rest = "".join(f"{it}\n" for it in lines_of_steps(100, 2, 2000, 60000)).encode()
+    said = room.run(*follow, "--checkpoint=kept", "--alone", "--progress", *names, env=stepped)
+    yield "of what a checkpoint has no groups are told", said == (0, b"", of_rest + last) and room.get("kept") == kept
+    room.put(upper=making.UPPER[:-1])
+    said, without = (room.run("run", "--alone", *how, *names, env=stepped) for how in (["--progress"], []))
+    yield "a refusal is the same", said == without and said[0] == 1
+    room.put(**(feeds(GROUPS) | {"lower": feeds(GROUPS)["upper"]}))
+    said, without = (room.run("run", "--alone", *how, *names, env=stepped) for how in (["--progress"], []))
+    yield "also one of a stream on its way", said[:2] == without[:2] == (1, b"") and said[2].endswith(without[2]) and each.fullmatch(said[2].removesuffix(without[2]))
+
+
+FRAME = re.compile("\r\x1b\\[\\?7l(.*?)\x1b\\[K\x1b\\[\\?7h")
+
+
+def looks(width, lines):
+    """Whether lines that are drawn one over the other never take more than one line, and leave nothing once they are taken away."""
+    screen = terminal.Screen(width)
+    alone = [screen.write(f"\r\x1b[?7l{it}\x1b[K\x1b[?7h").lines == [it[: width - 1]] for it in lines]
+    return all(alone) and screen.write(ERASED).lines == [""]
+
+
+def on_a_terminal(room, r):
+    """Both widths: a line that fits, and one that doesn't."""
+    room.put(workflow=making.workflow("-80", "80-"), **two_feeds(r, GROUPS)(GROUPS))
+    names, stepped = ["workflow", "lower", "upper"], with_steps(room, 100)
+    wanted = room.run("run", *names)
+    assert room.follow() == (0, b"", b"")
+    kept, last, of_all = room.get("kept"), last_line(room, wanted[1]).decode(), lines_of_steps(100, 2, 2 * GROUPS, 250)
+
+    def run(width, *words, env=stepped, **how):
+        status, said, shown = terminal.run([room.built, *words, *names], width, cwd=room.place, env=env, **how)
+        return status, said, shown.replace("\r\n", "\n")
+
+    for width in (100, 40):
+        for words, out, behind in ((["run"], wanted[1], ""), (["run", "--alone"], wanted[1], ""), (["follow", "--save-to=kept"], b"", last)):
+            room.put(kept=OLD)
+            status, said, shown = run(width, *words)
+            lines = FRAME.findall(shown)
+            whole = "".join(f"\r\x1b[?7l{it}\x1b[K\x1b[?7h" for it in lines) + ERASED + behind
+            each = all(re.fullmatch(LINE.format(of=2 * GROUPS), it) for it in lines)
+            yield f"{' '.join(words)} draws a line anew, {width} wide", (status, said, shown) == (0, out, whole) and each and len(lines) > 3000
+            yield "and takes no other line", looks(width, lines)
+            yield "as it is known where streams run one after another", "--alone" not in words or lines == of_all
+    yield "and the checkpoint is the same", room.get("kept") == kept
+    status, _, shown = run(80, "run", streams=("stdout", "stderr"))
+    yield "the rows stand alone behind it", status == 0 and shown.endswith(ERASED + wanted[1].decode()) and FRAME.sub("", shown) == ERASED + wanted[1].decode()
+    yield "with --quiet nothing is drawn", run(80, "run", "--quiet") == (0, wanted[1], "")
+    yield "on a dumb one neither", run(80, "run", env={**stepped, "TERM": "dumb"}) == (0, wanted[1], "")
+    yield "nor on one of no name", run(80, "run", env={name: it for name, it in stepped.items() if name != "TERM"}) == (0, wanted[1], "")
+    minutes = "".join(f"{it}\n" for it in lines_of_steps(100, 2, 2 * GROUPS, 60000))
+    yield "there --progress is as into a file", run(80, "run", "--alone", "--progress", env={**stepped, "TERM": "dumb"}) == (0, wanted[1], minutes)
+    room.put(lower=room.get("upper"))
+    refused = room.run("run", "--alone", *names)
+    status, said, shown = run(80, "run", "--alone")
+    yield "a refusal's line stands alone behind it", (status, said) == refused[:2] and status == 1 and FRAME.sub("", shown) == ERASED + refused[2].decode()
+
+
+def alone_on_a_terminal(room, r):
+    """The program without words, where standard input is a terminal: it doesn't wait for a feed to be typed."""
+    help_ = room.run("-h")
+    said = terminal.run([room.built], 80, streams=("stdin",), cwd=room.place)
+    yield "without words the short help is printed where a feed would be typed", help_[0] == 0 and said == (*help_[:2], "")
+    yield "and else a feed is read", room.run(stdin=b"") == (0, b"", b"")
 
 
 def of_listed_columns(room, r, rounds=10):
@@ -560,7 +682,7 @@ def of_listed_columns(room, r, rounds=10):
 
 
 KEEPING = (misnamed, kept_by_each, linked, rights, own_names, two_calls, failing_calls, killed_at_each)
-PARTS = (from_nothing, from_anywhere, again_and_again, only_some, refused, cut_short, killed, *KEEPING, progress, of_listed_columns)
+PARTS = (from_nothing, from_anywhere, again_and_again, only_some, up_to_positions, refused, cut_short, killed, *KEEPING, progress, on_a_terminal, alone_on_a_terminal, of_listed_columns)
 NOBODY = 65534
 
 

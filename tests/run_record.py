@@ -443,6 +443,13 @@ def paged(trial: Trial) -> None:
     pages.pages(trial)
 
 
+def transcribed(trial: Trial) -> None:
+    """Feeds of the server's log files, without a recorder."""
+    from record import transcribed as logs
+
+    logs.transcribed(trial)
+
+
 def from_vtgate(trial: Trial) -> None:
     """Feeds from what VTGate sends, by its changes and by a copy, over a stand-in for it."""
     from record.vtgate_trials import vtgate
@@ -453,7 +460,7 @@ def from_vtgate(trial: Trial) -> None:
 STEPS: list[list[Callable[[Trial], None]]] = [
     [statements, stops, prepared, reached, harmless, random_tables, merged_and_split, by_hash, kinds, portions, grown, late, workflows, from_vtgate,
      operated, living],
-    [kept, anew, large, compared, compacted, repaired, paged],
+    [kept, anew, large, compared, compacted, repaired, paged, transcribed],
 ]  # fmt: skip
 """Side by side, each over a server of its own: a step may need what one before it has made."""
 

@@ -4,7 +4,7 @@ import re
 from . import Refused, checkpoint
 from .board import Board, dump, key_text, read_script
 from .check import check
-from .feed import Feed, bytes_of_hex, show, show_json
+from .feed import BadPosition, Feed, bytes_of_hex, is_within, read_position, show, show_json
 from .told import place
 from .vdiff import vdiff
 from .workflow import Workflow
@@ -28,6 +28,33 @@ def opened(is_hex, workflow, feeds):
     return workflow, said
 
 
+def until(text, count):
+    """The stream that a text of --until names, None for each, and the text of its position."""
+    stream, equals, position = text.partition("=")
+    if equals and int(stream) >= count:
+        raise Refused(115)
+    return (int(stream), position) if equals else (None, text)
+
+
+def position_of(text):
+    try:
+        return read_position(text.encode())
+    except BadPosition as bad:
+        raise Refused(94, b" cause %d" % bad.args[0]) from None
+
+
+def ended(feeds, texts):
+    """Feeds up to the positions that are given: of each the groups that lie within the last one for it."""
+    named = [until(it, len(feeds)) for it in texts]
+    ends = [(stream, position_of(it)) for stream, it in named]
+    for s, feed in enumerate(feeds):
+        for position in [it for stream, it in ends if stream in (None, s)][-1:]:
+            if not is_within(position, feed.seen):
+                raise Refused(128, b" stream %d" % s)
+            feed.groups = [it for it in feed.groups if is_within(it[0], position)]
+    return feeds
+
+
 def replies(board, steps):
     return b"".join(board.reply(it) for it in steps)
 
@@ -41,6 +68,15 @@ def save(is_hex, workflow, feeds, script):
     board = Board(*opened(is_hex, workflow, feeds))
     replies(board, read_script(script))
     return checkpoint.save(board)
+
+
+def save_told(is_hex, workflow, feeds, script, is_strict):
+    """The status of `save`, its checkpoint, and what it says of steps that were refused."""
+    board = Board(*opened(is_hex, workflow, feeds))
+    said = [board.reply(it) for it in read_script(script)]
+    refused = sum(it.startswith(b"refused ") for it in said)
+    note = b"%d of %d steps were refused\n" % (refused, len(said)) if refused else b""
+    return int(is_strict and refused > 0), checkpoint.save(board), note
 
 
 def resume(is_hex, data, workflow, feeds, script):
@@ -57,20 +93,22 @@ def join(is_hex, workflow, one, others, feeds):
     return checkpoint.save(board)
 
 
-def run_alone(is_hex, policy, workflow, feeds):
-    board = Board(*opened(is_hex, workflow, feeds))
+def run_alone(is_hex, policy, texts, workflow, feeds):
+    workflow, feeds = opened(is_hex, workflow, feeds)
+    board = Board(workflow, ended(feeds, texts))
     for s in range(len(board.streams)):
         board.fill(s, *policy)
     return board.dump()
 
 
-def run_in_threads(is_hex, policy, workflow, feeds):
+def run_in_threads(is_hex, policy, texts, workflow, feeds):
     """What `run` may answer in threads: the dump, if every schedule or some gives it, and the lines of refusals.
 
     A stream is refused 90 where its feed isn't sound, and may be refused 71 where another stream's row may
     stand. So where streams share no key there is one answer, and else it is one of those that are named here.
     """
     workflow, feeds = opened(is_hex, workflow, feeds)
+    ended(feeds, texts)
     boards, unsound, at = [], [], {}
     for s in range(len(feeds)):
         board = Board(workflow, feeds)
@@ -130,7 +168,8 @@ def said_by(words, files, stdin):
         first = int(values["first"]) if "first" in values else None
         return vdiff(*given, names[1:], "--tables" in options, first, "--json" in options)
     if command == "run":
-        return (run_alone if "--alone" in options else run_in_threads)(is_hex, policy, given[0], given[1:])
+        texts = [it.removeprefix("--until=") for it in options if it.startswith("--until=")]
+        return (run_alone if "--alone" in options else run_in_threads)(is_hex, policy, texts, given[0], given[1:])
     if command == "check":
         return checked(is_hex, "--json" in options, "--strict" in options, given[0], [it.encode() for it in names[1:]], given[1:])
     if command == "resume":
@@ -138,7 +177,9 @@ def said_by(words, files, stdin):
     if command == "join":
         also = [files[it.removeprefix("--also=")] for it in options if it.startswith("--also=")]
         return join(is_hex, *given[:2], [given[2], *also], given[3:])
-    return {"step": step, "save": save}[command](is_hex, given[0], given[1:], stdin)
+    if command == "save":
+        return save_told(is_hex, given[0], given[1:], stdin, "--strict" in options)
+    return step(is_hex, given[0], given[1:], stdin)
 
 
 def answers(words, files, stdin=b""):
@@ -150,6 +191,6 @@ def answers(words, files, stdin=b""):
     if isinstance(said, bytes):
         return [(0, said, b"")]
     if isinstance(said[0], int):
-        return [(said[0], said[1], b"")]
+        return [(*said, b"")[:3]]
     whole, lines = said
     return [(0, whole, b"")] * (whole is not None) + [(1, b"", it) for it in sorted(lines)]

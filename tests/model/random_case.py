@@ -1,7 +1,7 @@
 """A case at random: a command's words, its files and its standard input."""
 from . import Refused, checkpoint
 from .board import Board, dump
-from .feed import Feed
+from .feed import Feed, print_position
 from .random_feed import UUIDS, Feeds
 from .wire import varint
 from .workflow import Workflow
@@ -99,7 +99,7 @@ class Case(Feeds):
         self.words = ["check", *self.options(), *["--json"] * self.chance(0.3), *["--strict"] * self.chance(0.3), *self.named_feeds()]
 
     def save(self):
-        self.words = ["save", *self.options(), *self.named_feeds()]
+        self.words = ["save", *self.options(), *["--strict"] * self.chance(0.3), *self.named_feeds()]
         self.stdin = self.script(self.board())
 
     def resume(self):
@@ -186,7 +186,17 @@ class Case(Feeds):
         words = ["--alone"] if self.chance(0.5) else []
         for name in ("rows", "ahead", "chunks"):
             words += [f"--{name}={r.choice([1, 1, 2, 3, 1000000])}"] if self.chance(0.5) else []
+        words += [self.until() for _ in range(r.choice([0, 0, 1, 1, 2, 3]))]
         self.words = ["run", *self.options(), *words, *self.named_feeds()]
+
+    def until(self):
+        """A position of one of the feeds, or another one, for a stream or for each."""
+        board = self.board()
+        texts = [print_position(it).decode() for feed in (board.feeds if board else []) for it, _ in feed.groups]
+        other = ["", f"{UUIDS[0].decode()}:1-{self.r.randrange(1, 9)}", f"{UUIDS[1].decode()}:2", "x"]
+        text = self.r.choice(texts * 3 + other)
+        stream = self.r.choice(["", f"{self.r.randrange(len(self.feeds) + self.chance(0.1))}="])
+        return f"--until={stream}{text}"
 
     def vdiff(self):
         tables = self.read.tables if self.read else []

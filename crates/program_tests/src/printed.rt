@@ -30,6 +30,18 @@ pub fn is_done(status: u8, out: &[u8], err: &[u8], wanted: &[u8]) -> Result<bool
     Ok(status == 0 && is_blank_at(err, 0) && is_printed(out, wanted))
 }
 
+/// A command ended well, and has printed this text, and this one on standard error; an error where memory was wanting.
+pub fn is_told(
+    status: u8,
+    out: &[u8],
+    err: &[u8],
+    wanted: &[u8],
+    told: &[u8],
+) -> Result<bool, AllocError> {
+    let status = status_or_memory(status, err)?;
+    Ok(status == 0 && is_printed(err, told) && is_printed(out, wanted))
+}
+
 /// A command was refused since standard output had only so much room, and has filled it with a beginning of
 /// this text; an error where memory was wanting.
 pub fn is_cut(status: u8, out: &[u8], err: &[u8], wanted: &[u8]) -> Result<bool, AllocError> {

@@ -35,6 +35,7 @@ fn meets_a_foreign_row<R: Threads + Wait + Sync>(
         feed_form: FeedForm::Hex,
         workflow: Vec::from_slice(alloc, TWO.as_bytes())?,
         feeds: feeds_of(alloc, &[LOWER, SAME_KEY])?,
+        until: &[],
     };
     let (mut out, mut err) = ([0u8; 64], [0u8; 64]);
     let mut dump = Writer::new(Cursor::new(&mut out[..]));

@@ -15,9 +15,11 @@ pub(crate) fn text_of(number: u64) -> Option<&'static str>
         120 => Some(BAD_SCRIPT),
         121 => Some(BAD_DUMP),
         123 => Some(UNKNOWN_TABLE),
+        128 => Some(SHORT_FEED),
         129 => Some(CHANGED),
         131 => Some(CANNOT_READ),
         132 => Some(CANNOT_WRITE),
+        133 => Some(BAD_TEXT),
         _ => None,
     }
 }
@@ -100,6 +102,18 @@ What to do: add the table to the workflow first; or, if nothing will ever want
 its rows, run the command again with --drop-unknown.
 ";
 
+pub const SHORT_FEED: &str = "\
+128  a feed doesn't reach the position of --until
+
+A stream's feed ends before the position of --until: this has a pair that the
+feed's last position lacks. The line has the stream.
+Usual causes: a feed that is still being recorded, or that was recorded only up
+to an earlier time; a position of another shard or server; feeds in the wrong
+order.
+What to do: record the feed further, or name a position that it has reached,
+for this stream alone as --until S=POSITION. `vrepl show` prints the positions.
+";
+
 pub const CHANGED: &str = "\
 129  a file changed before it could be replaced
 
@@ -130,4 +144,16 @@ pipe, as of `| head`.
 What to do: make room, and run the command again. The file of --save-to is what
 it was. What was printed on standard output is a beginning and not the whole:
 throw it away.
+";
+
+pub const BAD_TEXT: &str = "\
+133  a line of a text isn't as `show` prints it
+
+A line of the text that `feed` reads isn't as `show` prints it of any feed. The
+line of the refusal says which, and the byte of it, both from 1.
+Usual causes: blanks in place of a tab; a cell that is neither N nor x and
+digits in lower case; a group without the next number, or whose position isn't
+printed as `show` prints it or lacks a part of the one before; a row with more
+or fewer cells than its table has columns; a last line without its end.
+What to do: mend the line. `vrepl show` of a feed prints lines to go by.
 ";

@@ -70,9 +70,11 @@ pub const LIST: &str = "\
 120  a line of the script is no step
 121  a line of a dump can't stand there
 123  rows of a table that the workflow lacks would be lost
+128  a feed doesn't reach the position of --until
 129  a file changed before it could be replaced
 131  a file can't be read
 132  a file or standard output can't be written
+133  a line of a text isn't as `show` prints it
 140  a file is no binary log
 141  a binary log is cut short
 142  an event of a binary log is smaller than its head

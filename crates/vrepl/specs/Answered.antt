@@ -9,7 +9,7 @@ use Rattle.vrepl_main.specs.declared.refusal.CommandRefusal.{CommandRefusal}
 use Rattle.vrepl_words.specs.declared.words.Run.{Run}
 use Rattle.vrepl_words.specs.declared.words.Words.{Words}
 use Rattle.vrepl_words.specs.declared.words.Words.TheVariants as ways
-use Rattle.vrepl.specs.Asked.{IsCheckAsked, IsCompactAsked, IsVdiffAsked, text_asked}
+use Rattle.vrepl.specs.Asked.{IsCheckAsked, IsCompactAsked, IsFeedAsked, IsVdiffAsked, feed_inputs, text_asked}
 use Rattle.vrepl.specs.Compared.{asks_more, ComparedEnds}
 use Rattle.vrepl.specs.declared.answering.Asked.{Asked}
 use Rattle.vrepl.specs.declared.answering.Asked.TheVariants as asked
@@ -23,6 +23,7 @@ use Rattle.vrepl.specs.Checked.{ReportEnds}
 use Rattle.vrepl.specs.Stated.{IsStatusAsked, StatusEnds}
 use Rattle.vrepl.specs.Tiled.{TilesEnds}
 use Rattle.vrepl_compact.specs.Compacted.{CompactEnds}
+use Rattle.vrepl_feed.specs.Fed.{FeedEnds}
 
 -- the command prints what its inputs make and does no more: it puts nothing into a file
 abbrev pub IsAnswering : Words → Type 0
@@ -37,6 +38,7 @@ IsAnswering (ways.Check words) = Unit {0}
 IsAnswering (ways.Tiles words) = Unit {0}
 IsAnswering (ways.Status words) = Unit {0}
 IsAnswering (ways.Compact words) = words.save_to ≡ None
+IsAnswering (ways.Feed words) = Unit {0}
 IsAnswering words = ⊥
 
 -- the streams are run as the words ask for it: one after another or in threads, and in these portions
@@ -48,8 +50,8 @@ IsCourseOf words course =
 abbrev pub IsAskedBy : Words → Asked → Type 0
 IsAskedBy (ways.Show words) (asked.Show of feed) = of.now ≡ words
 IsAskedBy (ways.Step words) (asked.Step inputs) = inputs.feed_form ≡ words.feed_form
-IsAskedBy (ways.Run words) (asked.Run inputs) = IsCourseOf words inputs.course × (inputs.feed_form ≡ words.feed_form)
-IsAskedBy (ways.Save words) (asked.Save inputs) = inputs.feed_form ≡ words.step.feed_form
+IsAskedBy (ways.Run words) (asked.Run inputs) = IsCourseOf words inputs.course × (inputs.feed_form ≡ words.feed_form) × (inputs.until.now ≡ words.until.items)
+IsAskedBy (ways.Save words) (asked.Save strict inputs) = (strict ≡ words.strict) × (inputs.feed_form ≡ words.step.feed_form)
 IsAskedBy (ways.Resume words) (asked.Resume inputs) = inputs.step.feed_form ≡ words.step.feed_form
 IsAskedBy (ways.Join words) (asked.Join inputs) = inputs.feed_form ≡ words.feed_form
 IsAskedBy (ways.Vdiff words) (asked.Vdiff inputs) = IsVdiffAsked words inputs
@@ -57,6 +59,7 @@ IsAskedBy (ways.Check words) (asked.Check inputs) = IsCheckAsked words inputs
 IsAskedBy (ways.Tiles words) (asked.Tiles inputs) = inputs.names.now ≡ words.workflows.items
 IsAskedBy (ways.Status words) (asked.Status inputs) = IsStatusAsked words inputs
 IsAskedBy (ways.Compact words) (asked.Compact inputs) = IsCompactAsked words inputs
+IsAskedBy (ways.Feed words) (asked.Feed inputs) = IsFeedAsked words inputs
 IsAskedBy words other = ⊥
 
 -- the first input that can't be read is named, in the order of its command
@@ -72,6 +75,7 @@ IsUnreadFor (ways.Check words) = IsUnreadAmong (File words.step.workflow ∷ map
 IsUnreadFor (ways.Tiles words) = IsUnreadAmong (map File words.workflows.items)
 IsUnreadFor (ways.Status words) = IsUnreadAmong (map File words.checkpoints.items)
 IsUnreadFor (ways.Compact words) = IsUnreadAmong (File words.workflow ∷ map File (words.feed ∷ words.checkpoints.items))
+IsUnreadFor (ways.Feed words) = IsUnreadAmong (feed_inputs words.workflow)
 IsUnreadFor words = λ refusal. ⊥
 
 -- how it ends
@@ -79,11 +83,12 @@ abbrev pub AnswerEnds : Asked → ℕ → Written → Written → Written → Wr
 AnswerEnds (asked.Show words feed) = TextEnds (text_asked words.now feed.items)
 AnswerEnds (asked.Step inputs) = StepEnds (script_asked inputs)
 AnswerEnds (asked.Run inputs) = RunEnds (opened_asked inputs)
-AnswerEnds (asked.Save inputs) = SaveEnds (script_asked inputs)
+AnswerEnds (asked.Save strict inputs) = SaveEnds strict (script_asked inputs)
 AnswerEnds (asked.Resume inputs) = ResumeEnds (script_asked inputs.step) inputs.checkpoint.items
 AnswerEnds (asked.Join inputs) = JoinEnds inputs
 AnswerEnds (asked.Vdiff inputs) = ComparedEnds (asks_more inputs.options) inputs
 AnswerEnds (asked.Compact inputs) = CompactEnds inputs
+AnswerEnds (asked.Feed inputs) = FeedEnds inputs
 AnswerEnds (asked.Check inputs) = λ status old new err_old err_new. ReportEnds inputs status old new err_old
 AnswerEnds (asked.Tiles inputs) = λ status old new err_old err_new. TilesEnds inputs status old new
 AnswerEnds (asked.Status inputs) = λ status old new err_old err_new. StatusEnds inputs status old new

@@ -1,5 +1,5 @@
 -- What the words that were read ask for of the inputs.
-use Rattle.std.specs.Prelude.{◌≡◌, ℕ, List, Option, None, Some, Result, Bool, false, codes, if◌then◌else◌}
+use Rattle.std.specs.Prelude.{◌≡◌, ℕ, List, [], ◌∷◌, is_some, Option, None, Some, Result, Bool, false, codes, if◌then◌else◌}
 use Rattle.std.specs.Str.{bytes_eq}
 use Rattle.vrepl_main.specs.Reasons.{Reason}
 use Rattle.vrepl_main.specs.Show.{shown_feed, shown_source}
@@ -18,6 +18,10 @@ use Rattle.compaction.specs.declared.cut.UnknownTables.TheVariants.{Refused, Lef
 use Rattle.vrepl_compact.specs.declared.inputs.CompactInputs.{CompactInputs}
 use Rattle.vrepl_words.specs.declared.words.Check.{Check}
 use Rattle.vrepl_words.specs.declared.words.Compact.{Compact}
+use Rattle.vrepl_feed.specs.declared.inputs.FeedInputs.{FeedInputs}
+use Rattle.vrepl_main.specs.declared.input.InputName.{InputName}
+use Rattle.vrepl_main.specs.declared.input.InputName.TheVariants.{File, Standard}
+use Rattle.vrepl_words.specs.declared.words.Feed.{Feed}
 use Rattle.vrepl_words.specs.declared.words.Show.{Show}
 use Rattle.vrepl_words.specs.declared.words.Vdiff.{Vdiff}
 
@@ -61,3 +65,12 @@ unknown_asked drop = if drop then LeftOut else Refused
 -- the same of the words of `compact`: how the feed is given, of which stream it is, and how far it is compacted
 abbrev pub IsCompactAsked : Compact → CompactInputs → Type 0
 IsCompactAsked words inputs = (inputs.feed_form ≡ words.feed_form) × (inputs.stream ≡ words.stream) × (inputs.at ≡ words.at) × (inputs.unknown ≡ unknown_asked words.drop_unknown)
+
+-- the inputs of `feed`: the workflow's file, where one is named, and the text on standard input
+abbrev pub feed_inputs : Option (Bor (List ℕ)) → List InputName
+feed_inputs None = Standard ∷ []
+feed_inputs (Some workflow) = File workflow ∷ Standard ∷ []
+
+-- the same of the words of `feed`: of which stream it is, and whether there is a workflow
+abbrev pub IsFeedAsked : Feed → FeedInputs → Type 0
+IsFeedAsked words inputs = (inputs.stream ≡ words.stream) × (is_some inputs.workflow ≡ is_some words.workflow)

@@ -5,3 +5,4 @@ pub mod Compared
 pub mod Kept
 pub mod Stated
 pub mod Tiled
+pub mod Transcribed

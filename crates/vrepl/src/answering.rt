@@ -6,9 +6,11 @@ ghost use Rattle.vrepl.specs.Answered.{AnswerEnds, IsAnswering, IsAskedBy, IsUnr
 use crate::checking::{read_check, report};
 use crate::compacting::read_compact;
 use crate::comparing::{compare, read_vdiff};
+use crate::feeding::read_feed;
 use crate::files::{FileInputs, read_files};
 use crate::reporting::Reporter;
 use crate::stating::{StatusInputs, read_status, state};
+use crate::telling::{Hushing, Teller};
 use crate::tiling::tile;
 use crate::{course_of, show_feed};
 use std::alloc::{AllocError, Global};
@@ -17,6 +19,7 @@ use std::thread::Threads;
 use vdiff_core::{Out, Writer};
 use vrepl_check::CheckInputs;
 use vrepl_compact::{CompactInputs, compact};
+use vrepl_feed::{FeedInputs, feed};
 use vrepl_main::{
     CommandRefusal, InputName, Inputs, JoinFiles, JoinInputs, Progress, ResumeInputs, RunInputs,
     Untold, join, read_input, read_join, read_resume, read_run, read_step, resume, run, save, step,
@@ -32,9 +35,9 @@ pub(crate) enum Asked<'a, 'w> {
     /// `step`.
     Step(Inputs),
     /// `run`.
-    Run(RunInputs),
-    /// `save`.
-    Save(Inputs),
+    Run(RunInputs<'a, 'w>),
+    /// `save`, strict or not.
+    Save(bool, Inputs),
     /// `resume`.
     Resume(ResumeInputs),
     /// `join`.
@@ -49,22 +52,26 @@ pub(crate) enum Asked<'a, 'w> {
     Status(StatusInputs<'a, 'w>),
     /// `compact`.
     Compact(CompactInputs<'w>),
+    /// `feed`.
+    Feed(FeedInputs),
 }
 
 /// Reads the inputs of such a command, and prints what it makes of them.
 pub(crate) fn run_answering<'w, T: Threads + Wait + Sync>(
     rt: &HostRuntime,
     threads: &T,
+    teller: &Teller<'_>,
     words: &Words<'w>,
 ) -> Result<u8, CommandRefusal<'w>>
     requires answering { IsAnswering words.now }
     ensures status { IfOk result (λ status. (status ≤ 1) ⊎ (status ≡ 3)) }
     ensures unread { IfErr result (IsUnreadFor words.now) }
 {
-    let asked = read_asked(rt, words)?;
+    let asked = read_asked(rt, teller, words)?;
+    teller.has_all();
     match reporter_of(rt, words)? {
-        Some(reporter) => Ok(print_answer(rt, threads, &reporter, &asked)),
-        None => Ok(print_answer(rt, threads, &Untold, &asked)),
+        Some(reporter) => Ok(print_answer(rt, threads, teller, &reporter, &asked)),
+        None => Ok(print_answer(rt, threads, teller, &Untold, &asked)),
     }
 }
 
@@ -74,7 +81,7 @@ fn reporter_of<'r>(
     words: &Words<'_>,
 ) -> Result<Option<Reporter<'r>>, AllocError> {
     match words {
-        Words::Run(run) if run.progress => Ok(Some(Reporter::new(rt, run.feeds.len())?)),
+        Words::Run(run) => Reporter::asked(rt, run),
         _ => Ok(None),
     }
 }
@@ -82,6 +89,7 @@ fn reporter_of<'r>(
 /// Reads the inputs that the words name, each by its name, in the order of their command.
 fn read_asked<'a, 'w>(
     rt: &HostRuntime,
+    teller: &Teller<'_>,
     words: &'a Words<'w>,
 ) -> Result<Asked<'a, 'w>, CommandRefusal<'w>>
     requires answering { IsAnswering words.now }
@@ -90,38 +98,47 @@ fn read_asked<'a, 'w>(
 {
     match words {
         Words::Show(words) => {
-            let feed = read_input(rt, InputName::of_word(words.feed))?;
+            let feed = read_input(rt, &Untold, InputName::of_word(words.feed))?;
             Ok(Asked::Show(words, feed))
         }
         Words::Step(words) => {
-            let inputs = read_step(rt, words.feed_form, words.workflow, &words.feeds)?;
+            let inputs = read_step(rt, &Untold, words.feed_form, words.workflow, &words.feeds)?;
             Ok(Asked::Step(inputs))
         }
         Words::Run(words) => {
             let course = course_of(words);
-            let inputs = read_run(rt, course, words.feed_form, words.workflow, &words.feeds)?;
+            let form = words.feed_form;
+            let until = &words.until;
+            let inputs = read_run(rt, course, form, words.workflow, &words.feeds, until)?;
             Ok(Asked::Run(inputs))
         }
         Words::Save(words) => {
             let step = &words.step;
-            let inputs = read_step(rt, step.feed_form, step.workflow, &step.feeds)?;
-            Ok(Asked::Save(inputs))
+            let inputs = read_step(rt, &Untold, step.feed_form, step.workflow, &step.feeds)?;
+            Ok(Asked::Save(words.strict, inputs))
         }
         Words::Resume(words) => {
             let step = &words.step;
-            let checkpoint = words.checkpoint;
-            let inputs = read_resume(rt, step.feed_form, checkpoint, step.workflow, &step.feeds)?;
+            let inputs = read_resume(
+                rt,
+                teller,
+                step.feed_form,
+                words.checkpoint,
+                step.workflow,
+                &step.feeds,
+            )?;
             Ok(Asked::Resume(inputs))
         }
         Words::Join(words) => {
-            let inputs = read_join(rt, words.feed_form, &files_of(words))?;
+            let inputs = read_join(rt, teller, words.feed_form, &files_of(words))?;
             Ok(Asked::Join(inputs))
         }
-        Words::Vdiff(words) => Ok(Asked::Vdiff(read_vdiff(rt, words)?)),
-        Words::Check(words) => Ok(Asked::Check(read_check(rt, words)?)),
+        Words::Vdiff(words) => Ok(Asked::Vdiff(read_vdiff(rt, teller, words)?)),
+        Words::Check(words) => Ok(Asked::Check(read_check(rt, teller, words)?)),
         Words::Tiles(words) => Ok(Asked::Tiles(read_files(rt, &words.workflows)?)),
         Words::Status(words) => Ok(Asked::Status(read_status(rt, words)?)),
-        Words::Compact(words) => Ok(Asked::Compact(read_compact(rt, words)?)),
+        Words::Compact(words) => Ok(Asked::Compact(read_compact(rt, teller, words)?)),
+        Words::Feed(words) => Ok(Asked::Feed(read_feed(rt, words)?)),
         _ => unreachable!(),
     }
 }
@@ -141,22 +158,24 @@ pub(crate) fn files_of<'n, 'w>(words: &'n Join<'w>) -> JoinFiles<'n, 'w>
     }
 }
 
-/// Prints on the standard streams what the command makes of its inputs.
+/// Prints on the standard streams what the command makes of its inputs; nothing more is told then of how far it is.
 fn print_answer<T: Threads + Wait + Sync, G: Progress + Sync>(
     rt: &HostRuntime,
     threads: &T,
+    teller: &Teller<'_>,
     gate: &G,
     asked: &Asked<'_, '_>,
 ) -> u8
     ensures status { (result ≤ 1) ⊎ (result ≡ 3) }
 {
+    let (out, err) = (Writer::new(rt.stdout()), Writer::new(rt.stderr()));
     answer(
         threads,
         rt.alloc(),
         gate,
         asked,
-        &mut Writer::new(rt.stdout()),
-        &mut Writer::new(rt.stderr()),
+        &mut Hushing { teller, out },
+        &mut Hushing { teller, out: err },
     )
 }
 
@@ -176,7 +195,7 @@ fn answer<T: Threads + Wait + Sync, G: Progress + Sync, W: Out, E: Out>(
         Asked::Show(words, feed) => show_feed(alloc, words, feed, out, err),
         Asked::Step(inputs) => step(alloc, inputs, out, err),
         Asked::Run(inputs) => run(threads, alloc, inputs, gate, out, err),
-        Asked::Save(inputs) => save(alloc, inputs, out, err),
+        Asked::Save(strict, inputs) => save(alloc, inputs, *strict, out, err),
         Asked::Resume(inputs) => resume(alloc, inputs, out, err),
         Asked::Join(inputs) => join(alloc, inputs, out, err),
         Asked::Vdiff(inputs) => compare(alloc, inputs, out, err),
@@ -184,5 +203,6 @@ fn answer<T: Threads + Wait + Sync, G: Progress + Sync, W: Out, E: Out>(
         Asked::Tiles(inputs) => tile(alloc, inputs, out, err),
         Asked::Status(inputs) => state(alloc, inputs, out, err),
         Asked::Compact(inputs) => compact(alloc, inputs, out, err),
+        Asked::Feed(inputs) => feed(alloc, inputs, out, err),
     }
 }

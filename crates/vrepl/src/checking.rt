@@ -6,6 +6,7 @@ ghost use Rattle.vrepl.specs.Checked.{ReportEnds};
 ghost use Rattle.vrepl_main.specs.Inputs.{IsUnreadAmong};
 ghost use Rattle.vrepl_main.specs.declared.input.InputName.TheVariants.{File};
 
+use crate::telling::Teller;
 use std::alloc::Global;
 use vdiff_core::Out;
 use vrepl_check::{CheckInputs, check, print_place};
@@ -15,6 +16,7 @@ use vrepl_words::words::Check;
 /// Reads the inputs that the words name: the workflow's file, and the feeds' files in the order of the streams.
 pub(crate) fn read_check<'n, 'w>(
     rt: &HostRuntime,
+    teller: &Teller<'_>,
     words: &'n Check<'w>,
 ) -> Result<CheckInputs<'n, 'w>, CommandRefusal<'w>>
     ensures asked { IfOk result (IsCheckAsked words.entry.now) }
@@ -22,7 +24,7 @@ pub(crate) fn read_check<'n, 'w>(
 {
     let step = &words.step;
     let names = run_inputs(rt.alloc(), step.workflow, &step.feeds)?;
-    let mut feeds = read_inputs(rt, &names)?;
+    let mut feeds = read_inputs(rt, teller, &names)?;
     let workflow = feeds.remove(0);
     Ok(CheckInputs {
         report_form: words.report_form,

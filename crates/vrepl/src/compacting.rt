@@ -6,6 +6,7 @@ ghost use Rattle.vrepl_main.specs.Inputs.{IsUnreadAmong};
 ghost use Rattle.vrepl_main.specs.declared.input.InputName.TheVariants.{File};
 
 use crate::keeping::{Keeping, keep, misnamed, place_of};
+use crate::telling::Teller;
 use compaction::UnknownTables;
 use std::alloc::{AllocError, Global};
 use vdiff_core::{Writer, put_all};
@@ -47,6 +48,7 @@ fn unknown_of(words: &Compact<'_>) -> UnknownTables
 /// Reads the inputs that the words name: the workflow's file, the feed's, and the checkpoints' in their order.
 pub(crate) fn read_compact<'w>(
     rt: &HostRuntime,
+    teller: &Teller<'_>,
     words: &Compact<'w>,
 ) -> Result<CompactInputs<'w>, CommandRefusal<'w>>
     ensures asked { IfOk result (IsCompactAsked words.entry.now) }
@@ -54,7 +56,7 @@ pub(crate) fn read_compact<'w>(
 {
     let files = files_of(rt.alloc(), words)?;
     let names = run_inputs(rt.alloc(), words.workflow, &files)?;
-    let mut checkpoints = read_inputs(rt, &names)?;
+    let mut checkpoints = read_inputs(rt, teller, &names)?;
     let workflow = checkpoints.remove(0);
     let feed = checkpoints.remove(0);
     Ok(CompactInputs {
@@ -72,6 +74,7 @@ pub(crate) fn read_compact<'w>(
 /// standard output what was done.
 pub(crate) fn compact_to<'w>(
     rt: &HostRuntime,
+    teller: &Teller<'_>,
     words: &Compact<'w>,
     file: &'w str,
 ) -> Result<u8, CommandRefusal<'w>>
@@ -84,13 +87,18 @@ pub(crate) fn compact_to<'w>(
         misnamed(rt, "is a checkpoint's");
         return Ok(2);
     }
-    let inputs = read_compact(rt, words)?;
+    let inputs = read_compact(rt, teller, words)?;
+    teller.has_all();
     match compacted(rt.alloc(), &inputs) {
         Ok(NewFeed { made, line }) => {
             keep(rt, &place, file, &made.feed)?;
+            teller.ends();
             put_all(&mut Writer::new(rt.stdout()), line.as_bytes())?;
             Ok(0)
         }
-        Err(uncompacted) => Ok(refuse_uncompacted(&mut Writer::new(rt.stderr()), uncompacted)),
+        Err(uncompacted) => {
+            teller.ends();
+            Ok(refuse_uncompacted(&mut Writer::new(rt.stderr()), uncompacted))
+        }
     }
 }

@@ -6,6 +6,7 @@ ghost use Rattle.vrepl.specs.Compared.{ComparedEnds, asks_more, is_detailed, is_
 ghost use Rattle.vrepl_main.specs.Inputs.{IsUnreadAmong, is_standard, input_name};
 ghost use Rattle.vrepl_main.specs.declared.input.InputName.TheVariants.{File};
 
+use crate::telling::Teller;
 use std::alloc::Global;
 use vdiff_core::Out;
 use vrepl_choices::ReportForm;
@@ -17,14 +18,15 @@ use vrepl_words::words::Vdiff;
 /// is `-`.
 pub(crate) fn read_vdiff<'w>(
     rt: &HostRuntime,
+    teller: &Teller<'_>,
     words: &Vdiff<'w>,
 ) -> Result<VdiffInputs<'w>, CommandRefusal<'w>>
     ensures asked { IfOk result (IsVdiffAsked words.now) }
     ensures unread { IfErr result (IsUnreadAmong (File words.now.workflow ∷ File words.now.source ∷ File words.now.target ∷ [])) }
 {
-    let workflow = read_input(rt, InputName::File(words.workflow))?;
-    let source = read_input(rt, InputName::of_word(words.source))?;
-    let target = read_input(rt, other_dump(words.source, words.target))?;
+    let workflow = read_input(rt, teller, InputName::File(words.workflow))?;
+    let source = read_input(rt, teller, InputName::of_word(words.source))?;
+    let target = read_input(rt, teller, other_dump(words.source, words.target))?;
     Ok(VdiffInputs {
         options: options_of(words),
         workflow,

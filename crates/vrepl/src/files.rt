@@ -7,7 +7,7 @@ ghost use Rattle.vrepl_main.specs.declared.input.InputName.TheVariants.{File};
 use shown_text::shown;
 use std::alloc::{AllocError, Global};
 use vdiff_core::{Out, put_all};
-use vrepl_main::{CommandRefusal, InputName, read_inputs};
+use vrepl_main::{CommandRefusal, InputName, Untold, read_inputs};
 
 /// Files with their names.
 #[derive(Drop)]
@@ -38,7 +38,7 @@ pub(crate) fn read_files<'n, 'w>(
     ensures unread { IfErr result (IsUnreadAmong (map File names.entry.now)) }
 {
     let inputs = input_names(rt.alloc(), names)?;
-    let texts = read_inputs(rt, &inputs)?;
+    let texts = read_inputs(rt, &Untold, &inputs)?;
     Ok(FileInputs { names, texts })
 }
 

@@ -4,15 +4,16 @@ ghost use Rattle.std.specs.Prelude.{◌≤◌, IfOk};
 
 use crate::course_of;
 use crate::keeping::{Keeping, keep, place_of};
-use crate::reporting::Reporter;
+use crate::reporting::{Report, Reporter};
 use kept_file::Place;
 use std::alloc::Global;
 use std::sync::Wait;
 use std::thread::Threads;
 use vdiff_core::Writer;
+use vrepl_choices::Until;
 use vrepl_main::{
-    CommandRefusal, FollowInputs, Followed, InputName, Progress, Unfollowed, Untold, follow,
-    follow_only, given_feeds, read_input, read_run, refuse_unfollowed,
+    CommandRefusal, FollowInputs, Followed, GivenFeed, InputName, Progress, RunCourse, Unfollowed,
+    Untold, follow, follow_only, given_feeds, read_input, read_run, refuse_unfollowed,
 };
 use vrepl_words::words::Follow;
 
@@ -20,8 +21,9 @@ use vrepl_words::words::Follow;
 const STANDARD_OUTPUT: &str = "/dev/stdout";
 
 /// Moves the checkpoint that the words name, or none, on to the feeds' ends, and puts the new one into the file that
-/// they name, which is looked at before any is read; then prints the rows where they ask for them. The files are read in
-/// this order: the checkpoint, the workflow, the feeds.
+/// they name, which is looked at before any is read; then prints the rows where they ask for them. Where it is to be told
+/// how far the streams are, it is told at last where they stand. The files are read in this order: the checkpoint, the
+/// workflow, the feeds.
 pub(crate) fn run_follow<'w, T: Threads + Wait + Sync>(
     rt: &HostRuntime,
     threads: &T,
@@ -34,16 +36,14 @@ pub(crate) fn run_follow<'w, T: Threads + Wait + Sync>(
     let Keeping::In(place) = place_of(rt, words.save_to, run.workflow, &run.feeds, others)? else {
         return Ok(2);
     };
-    if run.progress {
-        let reporter = Reporter::new(rt, run.feeds.len())?;
-        follow_read(rt, threads, words, &place, &reporter)
-    } else {
-        follow_read(rt, threads, words, &place, &Untold)
+    match Reporter::asked(rt, run)? {
+        Some(reporter) => follow_read(rt, threads, words, &place, &reporter),
+        None => follow_read(rt, threads, words, &place, &Untold),
     }
 }
 
-/// The same with the place of that file; in threads the gate is told of each group on its way.
-fn follow_read<'w, T: Threads + Wait + Sync, G: Progress + Sync>(
+/// The same with the place of that file; the gate is told of each group on its way.
+fn follow_read<'w, T: Threads + Wait + Sync, G: Report + Sync>(
     rt: &HostRuntime,
     threads: &T,
     words: &Follow<'w>,
@@ -54,17 +54,38 @@ fn follow_read<'w, T: Threads + Wait + Sync, G: Progress + Sync>(
 {
     let run = &words.run;
     let saved = read_saved(rt, words.checkpoint)?;
-    let inputs = read_run(rt, course_of(run), run.feed_form, run.workflow, &run.feeds)?;
+    let course = course_of(run);
+    let form = run.feed_form;
+    let inputs = read_run(rt, course, form, run.workflow, &run.feeds, &run.until)?;
     let given = given_feeds(rt.alloc(), inputs.feed_form, &inputs.feeds)?;
-    let inputs = FollowInputs {
-        course: inputs.course,
-        checkpoint: saved.as_deref(),
-        workflow: &inputs.workflow,
-        feeds: &given,
-    };
+    let checkpoint = saved.as_deref();
+    let inputs = inputs_over(
+        inputs.course,
+        checkpoint,
+        &inputs.workflow,
+        &given,
+        inputs.until,
+    );
     match moved_on(threads, rt.alloc(), words, &inputs, gate) {
-        Ok(followed) => keep_followed(rt, words, place, &followed),
+        Ok(followed) => keep_followed(rt, words, place, gate, &followed),
         Err(unfollowed) => Ok(refuse_unfollowed(&mut Writer::new(rt.stderr()), unfollowed)),
+    }
+}
+
+/// The inputs over what was read, which all live as long.
+fn inputs_over<'h, 'f, 'w>(
+    course: RunCourse,
+    checkpoint: Option<&'h [u8]>,
+    workflow: &'h [u8],
+    feeds: &'h [GivenFeed<'f>],
+    until: &'h [Until<'w>],
+) -> FollowInputs<'h, 'f, 'w> {
+    FollowInputs {
+        course,
+        checkpoint,
+        workflow,
+        feeds,
+        until,
     }
 }
 
@@ -76,7 +97,7 @@ fn read_saved<'w>(
     match name {
         None => Ok(None),
         Some(name) => {
-            let bytes = read_input(rt, InputName::File(name))?;
+            let bytes = read_input(rt, &Untold, InputName::File(name))?;
             Ok(Some(bytes))
         }
     }
@@ -87,20 +108,21 @@ fn moved_on<'h, T: Threads + Wait + Sync, G: Progress + Sync>(
     threads: &T,
     alloc: Global,
     words: &Follow<'_>,
-    inputs: &FollowInputs<'h, '_>,
+    inputs: &FollowInputs<'h, '_, '_>,
     gate: &G,
 ) -> Result<Followed<'h>, Unfollowed> {
     match &words.only {
         None => follow(threads, alloc, inputs, gate),
-        Some(only) => follow_only(threads, alloc, inputs, only),
+        Some(only) => follow_only(threads, alloc, inputs, only, gate),
     }
 }
 
-/// Puts the new checkpoint in its place, and prints the rows where the words ask for them.
-fn keep_followed<'w>(
+/// Puts the new checkpoint in its place, prints the rows where the words ask for them, and tells the gate.
+fn keep_followed<'w, G: Report>(
     rt: &HostRuntime,
     words: &Follow<'w>,
     place: &Place,
+    gate: &G,
     followed: &Followed<'_>,
 ) -> Result<u8, CommandRefusal<'w>>
     ensures status { IfOk result (λ status. status ≤ 1) }
@@ -109,5 +131,6 @@ fn keep_followed<'w>(
     if words.dump {
         followed.write_dump(&mut Writer::new(rt.stdout()))?;
     }
+    gate.followed(followed);
     Ok(0)
 }

@@ -4,11 +4,12 @@ ghost use Rattle.std.specs.Prelude.{◌≡◌, ◌≤◌, IfErr, IfOk};
 ghost use Rattle.vrepl.specs.Kept.{IsUnkept, IsUnplaced};
 
 use crate::answering::files_of;
+use crate::telling::Teller;
 use kept_file::{KeepFault, Place, PlaceFault};
 use vdiff_core::Writer;
 use vrepl_main::{
-    CommandRefusal, joined_checkpoint, read_join, read_step, refuse, refuse_unjoined,
-    saved_checkpoint,
+    CommandRefusal, Untold, joined_checkpoint, read_join, read_step, refuse, refuse_unjoined,
+    saved_checkpoint, tell_refused,
 };
 use vrepl_words::words::{Join, Save};
 
@@ -89,11 +90,11 @@ pub(crate) fn save_to<'w>(
     else {
         return Ok(2);
     };
-    let inputs = read_step(rt, step.feed_form, step.workflow, &step.feeds)?;
+    let inputs = read_step(rt, &Untold, step.feed_form, step.workflow, &step.feeds)?;
     match saved_checkpoint(rt.alloc(), &inputs) {
-        Ok(checkpoint) => {
-            keep(rt, &place, file, &checkpoint)?;
-            Ok(0)
+        Ok(saved) => {
+            keep(rt, &place, file, &saved.checkpoint)?;
+            Ok(tell_refused(&mut Writer::new(rt.stderr()), &saved, words.strict))
         }
         Err(refusal) => Ok(refuse(&mut Writer::new(rt.stderr()), &refusal)),
     }
@@ -102,6 +103,7 @@ pub(crate) fn save_to<'w>(
 /// `join` into the file of this name.
 pub(crate) fn join_to<'w>(
     rt: &HostRuntime,
+    teller: &Teller<'_>,
     words: &Join<'w>,
     file: &'w str,
 ) -> Result<u8, CommandRefusal<'w>>
@@ -110,12 +112,16 @@ pub(crate) fn join_to<'w>(
     let Keeping::In(place) = place_of(rt, file, words.workflow, &words.feeds, &[])? else {
         return Ok(2);
     };
-    let inputs = read_join(rt, words.feed_form, &files_of(words))?;
+    let inputs = read_join(rt, teller, words.feed_form, &files_of(words))?;
+    teller.has_all();
     match joined_checkpoint(rt.alloc(), &inputs) {
         Ok(checkpoint) => {
             keep(rt, &place, file, &checkpoint)?;
             Ok(0)
         }
-        Err(unjoined) => Ok(refuse_unjoined(&mut Writer::new(rt.stderr()), &unjoined)),
+        Err(unjoined) => {
+            teller.ends();
+            Ok(refuse_unjoined(&mut Writer::new(rt.stderr()), &unjoined))
+        }
     }
 }

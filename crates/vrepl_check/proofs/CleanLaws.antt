@@ -35,7 +35,11 @@ use Rattle.vrepl_main.specs.HexText.{feed_bytes}
 use Rattle.vrepl_main.specs.InputList.{bytes_of}
 use Rattle.vrepl_main.specs.Opening.{OpenedValue, feed_under, opened_feed, opened_feeds, opened_then, opened_with, opened_bytes, opened, said_plans}
 use Rattle.vrepl_main.specs.Reasons.{Reason, feed_count}
+use Rattle.vrepl_choices.specs.UntilValue.{until_value}
+use Rattle.vrepl_choices.specs.declared.until.Until.{Until}
+use Rattle.vrepl_main.specs.Ending.{opened_until}
 use Rattle.vrepl_main.specs.Running.{opened_asked}
+use Rattle.vrepl_main.proofs.EndLaws.{opened_whole}
 use Rattle.vrepl_main.specs.declared.named_inputs.RunInputs.{RunInputs}
 use Rattle.vrepl_check.specs.Checking.{IsFound, finds, bytes_or_none, names_of, said_checks, report_with, report_asked}
 use Rattle.vrepl_check.specs.Clean.{HasFile, IsFaultlessFile, IsCleanFile, IsFaultless, IsClean, IsGood, bytes_given, AreSameInputs, FaultlessRunsAreNotRefused, CleanIsFaultless}
@@ -286,7 +290,9 @@ bytes_at (b ∷ bytes) (f ∷ feeds) (suc s) feed many at = bytes_at bytes feeds
 same_opened : (checked : CheckInputs) (run : RunInputs) (found : OpenedValue) → AreSameInputs checked run → opened checked.feed_form checked.workflow.items (bytes_of checked.feeds.items) ≡ Ok found
     → opened_asked run ≡ Ok found
 same_opened checked run found same opens =
-    ap (λ form. opened form run.workflow.items (bytes_of run.feeds.items)) same.form
+    ap (λ (until : List Until). opened_until (map until_value until) (opened run.feed_form run.workflow.items (bytes_of run.feeds.items))) same.whole
+    ∙ opened_whole (opened run.feed_form run.workflow.items (bytes_of run.feeds.items))
+    ∙ ap (λ form. opened form run.workflow.items (bytes_of run.feeds.items)) same.form
     ∙ ap (λ workflow. opened checked.feed_form workflow (bytes_of run.feeds.items)) same.workflow
     ∙ ap (opened checked.feed_form checked.workflow.items) same.feeds
     ∙ opens

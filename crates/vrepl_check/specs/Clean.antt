@@ -79,11 +79,12 @@ IsGood true inputs = IsClean inputs
 
 -- ---- a run
 
--- the same workflow with the same feeds, given in the same form
+-- the same workflow with the same feeds, given in the same form and read to their ends
 pub record AreSameInputs (checked : CheckInputs) (run : RunInputs) : Type 0 where
   pub form : run.feed_form ≡ checked.feed_form
   pub workflow : run.workflow.items ≡ checked.workflow.items
   pub feeds : bytes_of run.feeds.items ≡ bytes_of checked.feeds.items
+  pub whole : run.until.now ≡ []
 
 -- Where a workflow and its feeds are without a fault, the same inputs open for a run, and no run of the feeds is refused but
 -- for want of memory: not 71, since another stream's row stands at a key, and not since a group isn't sound.

@@ -11,7 +11,7 @@ use Rattle.vrepl_main.specs.Command.{BreaksOffIn, PrintsWhole, RefusesCommand, I
 use Rattle.vrepl_main.specs.RefusalOf.{refusal_of_feed}
 use Rattle.vrepl_main.specs.Show.{shown_groups}
 use Rattle.vrepl_main.specs.declared.refusal.CommandRefusal.{CommandRefusal}
-use Rattle.vrepl_main.specs.declared.refusal.CommandRefusal.TheVariants.{Memory, Workflow, NoStream, FeedCount, Feed, BadHex, BadScript, BadDump, Changed, CannotRead, CannotWrite}
+use Rattle.vrepl_main.specs.declared.refusal.CommandRefusal.TheVariants.{Memory, Workflow, NoStream, FeedCount, NotReached, Feed, BadHex, BadScript, BadDump, Changed, CannotRead, CannotWrite}
 
 -- ---- how a command ends
 
@@ -62,6 +62,7 @@ module _ {X : Type 0} (IsText : X → List ℕ → Type 0) (refusal : CommandRef
       by NoStream is = (is, refl)
       by (Changed file) is = (is, refl)
       by FeedCount is = (is, refl)
+      by (NotReached stream) is = (is, refl)
       by (Feed fault) is = (is, refl)
       by BadHex is = (is, refl)
       by (BadScript bad) is = (is, refl)
@@ -80,6 +81,7 @@ module _ {X : Type 0} (IsText : X → List ℕ → Type 0) (refusal : CommandRef
       by NoStream unwritten = absurd unwritten
       by (Changed file) unwritten = absurd unwritten
       by FeedCount unwritten = absurd unwritten
+      by (NotReached stream) unwritten = absurd unwritten
       by (Feed fault) unwritten = absurd unwritten
       by BadHex unwritten = absurd unwritten
       by (BadScript bad) unwritten = absurd unwritten

@@ -8,7 +8,7 @@ use Rattle.vrepl_main.specs.Inputs.{input_name, IsUnread, IsUnreadAmong}
 use Rattle.vrepl_main.specs.declared.input.InputName.{InputName}
 use Rattle.vrepl_main.specs.declared.input.InputName.TheVariants.{Standard}
 use Rattle.vrepl_main.specs.declared.refusal.CommandRefusal.{CommandRefusal}
-use Rattle.vrepl_main.specs.declared.refusal.CommandRefusal.TheVariants.{Memory, Workflow, NoStream, FeedCount, Feed, BadHex, BadScript, BadDump, Changed, CannotRead, CannotWrite}
+use Rattle.vrepl_main.specs.declared.refusal.CommandRefusal.TheVariants.{Memory, Workflow, NoStream, FeedCount, NotReached, Feed, BadHex, BadScript, BadDump, Changed, CannotRead, CannotWrite}
 
 -- a read that finds the end shows that the bytes are all that was left
 pub whole : (old mid new : Option (List ℕ)) (bytes piece : List ℕ) (n : ℕ) → n ≡ 0 → Consumes old mid bytes → Consumes mid new (take n piece) → IsAtEnd new → IfSome old (λ left. bytes ≡ left)
@@ -32,6 +32,7 @@ unread_among names i (Workflow fault) within unread = absurd unread
 unread_among names i NoStream within unread = absurd unread
 unread_among names i (Changed file) within unread = absurd unread
 unread_among names i FeedCount within unread = absurd unread
+unread_among names i (NotReached stream) within unread = absurd unread
 unread_among names i (Feed fault) within unread = absurd unread
 unread_among names i BadHex within unread = absurd unread
 unread_among names i (BadScript bad) within unread = absurd unread
@@ -56,6 +57,7 @@ unread_later name others (Workflow fault) unread = absurd unread
 unread_later name others NoStream unread = absurd unread
 unread_later name others (Changed file) unread = absurd unread
 unread_later name others FeedCount unread = absurd unread
+unread_later name others (NotReached stream) unread = absurd unread
 unread_later name others (Feed fault) unread = absurd unread
 unread_later name others BadHex unread = absurd unread
 unread_later name others (BadScript bad) unread = absurd unread
@@ -77,6 +79,7 @@ unread_before some others (Workflow fault) unread = absurd unread
 unread_before some others NoStream unread = absurd unread
 unread_before some others (Changed file) unread = absurd unread
 unread_before some others FeedCount unread = absurd unread
+unread_before some others (NotReached stream) unread = absurd unread
 unread_before some others (Feed fault) unread = absurd unread
 unread_before some others BadHex unread = absurd unread
 unread_before some others (BadScript bad) unread = absurd unread

@@ -4,6 +4,7 @@ pub mod AddLaws
 mod NumberLaws
 pub mod CommandLaws
 mod OpenLaws
+pub mod EndLaws
 mod ScriptRunLaws
 mod ToldLaws
 mod StepLaws
@@ -15,3 +16,4 @@ mod RunLaws
 mod RightLaws
 mod AtOnceLaws
 mod FollowLaws
+mod AheadLaws

@@ -19,10 +19,15 @@ use Rattle.vdiff_core.specs.Printing.{Written, IsWritten}
 use Rattle.apply_core.specs.Ended.{IsRowsUnion, kept_of_feed, kept_by}
 use Rattle.vrepl_main.specs.HexText.{feed_bytes}
 use Rattle.vrepl_main.specs.InputList.{bytes_of}
-use Rattle.vrepl_main.specs.Opening.{OpenedValue, feed_under, opened_feed, opened_feeds, opened_then, opened_with, opened_bytes, said_plans}
+use Rattle.vrepl_choices.specs.UntilValue.{UntilValue, until_value}
+use Rattle.feed_ends.specs.EndedFeeds.{ended_feeds}
+use Rattle.feed_ends.specs.Faults.{EndReason}
+use Rattle.feed_ends.proofs.EndLaws.{are_ended}
+use Rattle.vrepl_main.specs.Ending.{ended_over, opened_until}
+use Rattle.vrepl_main.specs.Opening.{OpenedValue, feed_under, opened, opened_feed, opened_feeds, opened_then, opened_with, opened_bytes, said_plans}
 use Rattle.vrepl_main.specs.Reasons.{Reason, feed_count}
 use Rattle.vrepl_main.specs.RunIsRight.{IsOpened, AreOpened, Keeps, AreKeptRows, RunIsRight, WritesRight}
-use Rattle.vrepl_main.specs.Running.{IsFilled, PrintsDump, opened_asked}
+use Rattle.vrepl_main.specs.Running.{IsFilled, IsFilledBy, PrintsDump, opened_asked}
 use Rattle.vrepl_main.specs.declared.named_inputs.RunInputs.{RunInputs}
 
 -- ---- what was opened
@@ -152,29 +157,43 @@ kept_rows feeds rows union = record {
 -- ---- the text
 
 pub writes_right : (inputs : RunInputs) (old new : Written) → PrintsDump (opened_asked inputs) old new → WritesRight inputs old new
-writes_right inputs old new (filled, is, written) = by (opened_asked inputs) refl is
+writes_right inputs old new (filled, is, written) = by (opened inputs.feed_form inputs.workflow.items (bytes_of inputs.feeds.items)) refl is
   where
     given : List (Option (List ℕ))
     given = map (feed_bytes inputs.feed_form) (bytes_of inputs.feeds.items)
 
-    by : (reading : Result OpenedValue Reason) → opened_asked inputs ≡ reading → IsFilled reading filled → WritesRight inputs old new
-    by (Err reason) e is = absurd is
-    by (Ok found) e is =
-        let whole : SaysWhole inputs.workflow.items given found = says_whole inputs.workflow.items given found e in (
-          whole.fed.bytes,
-          whole.fed.are,
+    untils : List UntilValue
+    untils = map until_value inputs.until.now
+
+    right : (whole : OpenedValue) (feeds : List FeedValue) → opened inputs.feed_form inputs.workflow.items (bytes_of inputs.feeds.items) ≡ Ok whole → ended_feeds untils whole.feeds ≡ Ok feeds
+        → IsFilledBy (record { plans = whole.plans; feeds = feeds }) filled → WritesRight inputs old new
+    right whole feeds e ends is =
+        let says : SaysWhole inputs.workflow.items given whole = says_whole inputs.workflow.items given whole e in (
+          says.fed.bytes,
+          says.fed.are,
           dump_of filled.plan filled.rows,
           record {
-            plans = found.plans;
-            says = whole.says;
-            opened = found.feeds;
-            fed = whole.fed.fed;
+            plans = whole.plans;
+            says = says.says;
+            whole = whole.feeds;
+            fed = says.fed.fed;
+            opened = feeds;
+            ended = are_ended untils whole.feeds feeds ends;
             sound = is.ends.sound;
             rows = filled.rows;
-            kept = kept_rows found.feeds filled.rows (subst (IsRowsUnion found.feeds) (sym is.rows) is.ends.union);
+            kept = kept_rows feeds filled.rows (subst (IsRowsUnion feeds) (sym is.rows) is.ends.union);
             first = filled.plan;
             tables = is.first;
             dump = refl;
           },
           written,
         )
+
+    of_ends : (whole : OpenedValue) (r : Result (List FeedValue) EndReason) → ended_feeds untils whole.feeds ≡ r → opened inputs.feed_form inputs.workflow.items (bytes_of inputs.feeds.items) ≡ Ok whole
+        → IsFilled (ended_over whole.plans r) filled → WritesRight inputs old new
+    of_ends whole (Err reason) ends e is = absurd is
+    of_ends whole (Ok feeds) ends e is = right whole feeds e ends is
+
+    by : (r : Result OpenedValue Reason) → opened inputs.feed_form inputs.workflow.items (bytes_of inputs.feeds.items) ≡ r → IsFilled (opened_until untils r) filled → WritesRight inputs old new
+    by (Err reason) e is = absurd is
+    by (Ok whole) e is = of_ends whole (ended_feeds untils whole.feeds) refl e is

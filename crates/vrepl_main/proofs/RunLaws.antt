@@ -11,6 +11,8 @@ use Rattle.apply_core.specs.declared.run_refusal.RunRefusal.{RunRefusal}
 use Rattle.vrepl_main.specs.declared.refusal.CommandRefusal.{CommandRefusal}
 use Rattle.vrepl_main.specs.Command.{RefusesCommand, IsUnwritten}
 use Rattle.vrepl_choices.specs.declared.feed_form.FeedForm.{FeedForm}
+use Rattle.vrepl_choices.specs.UntilValue.{UntilValue}
+use Rattle.vrepl_main.specs.Ending.{opened_until}
 use Rattle.vrepl_main.specs.HexText.{feed_bytes}
 use Rattle.vrepl_main.specs.Opening.{OpenedValue, opened, opened_bytes}
 use Rattle.vrepl_main.specs.Reasons.{Reason}
@@ -21,9 +23,14 @@ use Rattle.vrepl_main.proofs.CommandLaws.{refuses, refuses_unwritten}
 use Rattle.vrepl_main.proofs.StepLaws.{map-map}
 
 -- the bytes of the feeds, decoded where they are given as hexadecimal text
-pub opened_as : {A : Type 0} (feeds : List A) (view : A → List ℕ) (form : FeedForm) (workflow : List ℕ) (given : List (Option (List ℕ))) → given ≡ map (λ feed. feed_bytes form (view feed)) feeds
+pub given_as : {A : Type 0} (feeds : List A) (view : A → List ℕ) (form : FeedForm) (workflow : List ℕ) (given : List (Option (List ℕ))) → given ≡ map (λ feed. feed_bytes form (view feed)) feeds
     → opened_bytes workflow given ≡ opened form workflow (map view feeds)
-opened_as feeds view form workflow given is = ap (λ (bytes : List (Option (List ℕ))). opened_bytes workflow bytes) (is ∙ sym (map-map (feed_bytes form) view feeds))
+given_as feeds view form workflow given is = ap (opened_bytes workflow) (is ∙ sym (map-map (feed_bytes form) view feeds))
+
+-- the same up to positions
+pub opened_as : {A : Type 0} (untils : List UntilValue) (feeds : List A) (view : A → List ℕ) (form : FeedForm) (workflow : List ℕ) (given : List (Option (List ℕ))) → given ≡ map (λ feed. feed_bytes form (view feed)) feeds
+    → opened_until untils (opened_bytes workflow given) ≡ opened_until untils (opened form workflow (map view feeds))
+opened_as untils feeds view form workflow given is = ap (opened_until untils) (given_as feeds view form workflow given is)
 
 module _ (reading : Result OpenedValue Reason) (found : OpenedValue) (plan : PlanValue) (is : reading ≡ Ok found) (first : slice_get found.plans 0 ≡ Some plan) where
   -- a run over what is opened is refused

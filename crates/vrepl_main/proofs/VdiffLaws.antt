@@ -16,8 +16,8 @@ use Rattle.vdiff_core.specs.declared.reading.DumpFault.{DumpFault}
 use Rattle.vdiff_core.specs.declared.reading.DumpFault.TheVariants as faults
 use Rattle.vdiff_core.specs.declared.report.Report.{Report}
 use Rattle.vrepl_main.specs.declared.refusal.CommandRefusal.{CommandRefusal}
-use Rattle.vrepl_main.specs.declared.refusal.CommandRefusal.TheVariants.{Memory, Workflow, NoStream, FeedCount, Feed, BadHex, BadScript, BadDump, Changed, CannotRead, CannotWrite}
-use Rattle.vrepl_main.specs.Reasons.{bad_workflow, no_stream, feed_count, bad_hex, bad_feed, bad_script, bad_dump}
+use Rattle.vrepl_main.specs.declared.refusal.CommandRefusal.TheVariants.{Memory, Workflow, NoStream, FeedCount, NotReached, Feed, BadHex, BadScript, BadDump, Changed, CannotRead, CannotWrite}
+use Rattle.vrepl_main.specs.Reasons.{bad_workflow, no_stream, feed_count, not_reached, bad_hex, bad_feed, bad_script, bad_dump}
 use Rattle.vrepl_main.specs.RefusalOf.{refusal_of_workflow, refusal_of_dump}
 use Rattle.vrepl_main.specs.Command.{IsUnwritten}
 use Rattle.vrepl_main.specs.Comparison.{Compared, IsComparison, AreDumps, IsBadLine, AreTextsReadOnce, RefusesDumps, report_text, first_text}
@@ -76,6 +76,7 @@ unwritten_comparison workflow source target compared (Workflow fault) old new du
 unwritten_comparison workflow source target compared NoStream old new dumps printed is = absurd is
 unwritten_comparison workflow source target compared (Changed file) old new dumps printed is = absurd is
 unwritten_comparison workflow source target compared FeedCount old new dumps printed is = absurd is
+unwritten_comparison workflow source target compared (NotReached stream) old new dumps printed is = absurd is
 unwritten_comparison workflow source target compared (Feed fault) old new dumps printed is = absurd is
 unwritten_comparison workflow source target compared BadHex old new dumps printed is = absurd is
 unwritten_comparison workflow source target compared (BadScript bad) old new dumps printed is = absurd is
@@ -152,6 +153,7 @@ module _ (once : dump.AreReadOnce) (workflow source target : List ℕ) where
   read_once (Ok one) (Err (bad_dump n)) x y = absurd (no_bad_line one n x y)
   read_once (Ok one) (Err no_stream) x y = absurd y
   read_once (Ok one) (Err feed_count) x y = absurd y
+  read_once (Ok one) (Err (not_reached stream)) x y = absurd y
   read_once (Ok one) (Err bad_hex) x y = absurd y
   read_once (Ok one) (Err (bad_feed fault)) x y = absurd y
   read_once (Ok one) (Err (bad_script n)) x y = absurd y
@@ -160,6 +162,7 @@ module _ (once : dump.AreReadOnce) (workflow source target : List ℕ) where
   read_once (Err (bad_workflow fault)) (Err (bad_dump n)) x y = absurd (no_plan y.plan y.others fault y.plans x)
   read_once (Err (bad_workflow fault)) (Err no_stream) x y = absurd y
   read_once (Err (bad_workflow fault)) (Err feed_count) x y = absurd y
+  read_once (Err (bad_workflow fault)) (Err (not_reached stream)) x y = absurd y
   read_once (Err (bad_workflow fault)) (Err bad_hex) x y = absurd y
   read_once (Err (bad_workflow fault)) (Err (bad_feed other)) x y = absurd y
   read_once (Err (bad_workflow fault)) (Err (bad_script n)) x y = absurd y
@@ -168,11 +171,13 @@ module _ (once : dump.AreReadOnce) (workflow source target : List ℕ) where
   read_once (Err (bad_dump n)) (Err (bad_dump m)) x y = ap (λ (k : ℕ). Err (bad_dump k)) (same_line n m x y)
   read_once (Err (bad_dump n)) (Err no_stream) x y = absurd y
   read_once (Err (bad_dump n)) (Err feed_count) x y = absurd y
+  read_once (Err (bad_dump n)) (Err (not_reached stream)) x y = absurd y
   read_once (Err (bad_dump n)) (Err bad_hex) x y = absurd y
   read_once (Err (bad_dump n)) (Err (bad_feed fault)) x y = absurd y
   read_once (Err (bad_dump n)) (Err (bad_script m)) x y = absurd y
   read_once (Err no_stream) other x y = absurd x
   read_once (Err feed_count) other x y = absurd x
+  read_once (Err (not_reached stream)) other x y = absurd x
   read_once (Err bad_hex) other x y = absurd x
   read_once (Err (bad_feed fault)) other x y = absurd x
   read_once (Err (bad_script n)) other x y = absurd x

@@ -12,6 +12,8 @@ use Rattle.apply_core.specs.declared.run_refusal.RunRefusal.{RunRefusal}
 use Rattle.vrepl_main.specs.declared.following.Unfollowed.{Unfollowed}
 use Rattle.vrepl_main.specs.declared.following.Unfollowed.TheVariants.{Given, Checkpoint, Stream}
 use Rattle.vrepl_main.specs.JoinedRun.{IsOpenedAnd}
+use Rattle.vrepl_choices.specs.UntilValue.{until_value}
+use Rattle.vrepl_main.specs.Ending.{opened_until}
 use Rattle.vrepl_main.specs.Opening.{OpenedValue, opened_bytes}
 use Rattle.vrepl_main.specs.Reasons.{Reason, RefusesInputs}
 use Rattle.vrepl_main.specs.Refusals.{refusal_line}
@@ -26,9 +28,9 @@ use Rattle.std.specs.declared.sync.Arc.{Arc}
 use Rattle.std.specs.declared.alloc.Global.{Global}
 use Rattle.vrepl_main.specs.OpenedFeeds.{opened_over}
 
--- the workflow with its feeds, or why they are refused
+-- the workflow with its feeds, each up to the position that is given for it, or why they are refused
 abbrev pub follow_asked : FollowInputs → Result OpenedValue Reason
-follow_asked inputs = opened_bytes inputs.workflow.now (map given_value inputs.feeds.now)
+follow_asked inputs = opened_until (map until_value inputs.until.now) (opened_bytes inputs.workflow.now (map given_value inputs.feeds.now))
 
 -- the checkpoint to go on from, where there is one
 abbrev pub saved_asked : FollowInputs → Option (List ℕ)

@@ -7,7 +7,6 @@ pub mod Printing
 pub mod Command
 pub mod Inputs
 pub mod Adding
-pub mod Shown
 pub mod Show
 pub mod AnswerText
 pub mod RefusedText
@@ -26,5 +25,6 @@ pub mod JoinedRun
 pub mod InputList
 pub mod Running
 pub mod RunIsRight
+pub mod Ending
 pub mod Followed
 pub mod OnlyFollowed

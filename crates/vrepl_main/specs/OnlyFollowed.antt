@@ -13,6 +13,8 @@ use Rattle.apply_core.specs.Resuming.{IsResumed}
 use Rattle.apply_core.specs.Ended.{IsFedBoard, HaveEnded, AreAsBefore}
 use Rattle.vrepl_main.specs.Followed.{FollowedValue, saved_asked}
 use Rattle.vrepl_main.specs.JoinedRun.{IsOpenedAnd}
+use Rattle.vrepl_choices.specs.UntilValue.{until_value}
+use Rattle.vrepl_main.specs.Ending.{opened_until}
 use Rattle.vrepl_main.specs.Opening.{OpenedValue, opened_with, said_plans}
 use Rattle.vrepl_main.specs.Reasons.{Reason, no_stream}
 use Rattle.vrepl_main.specs.Given.{given_value}
@@ -36,9 +38,10 @@ named_plans only workflow = said_plans (plans_of workflow) >>= λ plans. refused
 abbrev pub opened_for : List ℕ → List ℕ → List (Option (List ℕ)) → Result OpenedValue Reason
 opened_for only workflow feeds = named_plans only workflow >>= opened_with feeds
 
--- what the inputs give where the workflow has these streams, or why they are refused
+-- what the inputs give where the workflow has these streams, each feed up to the position that is given for it, or why they
+-- are refused
 abbrev pub only_asked : List ℕ → FollowInputs → Result OpenedValue Reason
-only_asked only inputs = opened_for only inputs.workflow.now (map given_value inputs.feeds.now)
+only_asked only inputs = opened_until (map until_value inputs.until.now) (opened_for only inputs.workflow.now (map given_value inputs.feeds.now))
 
 -- ---- the board
 

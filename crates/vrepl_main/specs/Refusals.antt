@@ -10,7 +10,7 @@ use Rattle.source_feed.specs.declared.fault.FeedFault.TheVariants.{Event, Diverg
 use Rattle.vrepl_main.specs.Printing.{named_number}
 use Rattle.vrepl_main.specs.RefusalLine.{line_of}
 use Rattle.vrepl_main.specs.declared.refusal.CommandRefusal.{CommandRefusal}
-use Rattle.vrepl_main.specs.declared.refusal.CommandRefusal.TheVariants.{Memory, Workflow, NoStream, FeedCount, Feed, BadHex, BadScript, BadDump, Changed, CannotRead, CannotWrite}
+use Rattle.vrepl_main.specs.declared.refusal.CommandRefusal.TheVariants.{Memory, Workflow, NoStream, FeedCount, NotReached, Feed, BadHex, BadScript, BadDump, Changed, CannotRead, CannotWrite}
 
 -- the number of each refusal
 abbrev pub number_of : CommandRefusal → ℕ
@@ -18,6 +18,7 @@ number_of Memory = 72
 number_of (Workflow fault) = plans.number_of fault
 number_of NoStream = 115
 number_of FeedCount = 119
+number_of (NotReached stream) = 128
 number_of (Feed fault) = feed.number_of fault
 number_of BadHex = 93
 number_of (BadScript bad) = 120
@@ -61,6 +62,7 @@ workflow_details _ = []
 abbrev pub details_of : CommandRefusal → List ℕ
 details_of (Workflow fault) = workflow_details fault
 details_of (Feed fault) = feed_details fault
+details_of (NotReached stream) = codes " stream " ++ decimal stream
 details_of (BadScript bad) = codes " line " ++ decimal bad
 details_of (BadDump bad) = codes " line " ++ decimal bad
 details_of (Changed file) = codes " file " ++ file.now

@@ -1,4 +1,5 @@
--- What `run` writes, in bytes alone: the text that a workflow and the bytes of its feeds make (this profile).
+-- What `run` writes, in bytes alone: the text that a workflow and the bytes of its feeds make, up to the positions that are
+-- given (this profile).
 use Rattle.std.specs.Prelude.{◌≡◌, ◌↔◌, ℕ, List, length, map, Some, Ok, slice_get}
 use Rattle.filter_rule.specs.PlanValue.{PlanValue}
 use Rattle.filter_rule.specs.Reading.{plans_of}
@@ -11,6 +12,8 @@ use Rattle.vdiff_core.specs.Dump.{dump_of}
 use Rattle.vdiff_core.specs.DumpRowsValue.{DumpRowsValue, row_with_key}
 use Rattle.vdiff_core.specs.Printing.{Written, IsWritten}
 use Rattle.apply_core.specs.Ended.{AreSound, kept_of_feed}
+use Rattle.vrepl_choices.specs.UntilValue.{UntilValue, until_value}
+use Rattle.feed_ends.specs.EndedFeeds.{AreEnded}
 use Rattle.vrepl_main.specs.HexText.{feed_bytes}
 use Rattle.vrepl_main.specs.InputList.{bytes_of}
 use Rattle.vrepl_main.specs.declared.named_inputs.RunInputs.{RunInputs}
@@ -45,13 +48,16 @@ pub record AreKeptRows (feeds : List FeedValue) (rows : DumpRowsValue) : Type 0 
 
 -- ---- the text
 
--- The workflow says plans, one a stream; the bytes are their feeds, of which all groups are sound; and what is written is
--- the dump of the rows that the streams keep, under the tables of the first plan.
-pub record RunIsRight (workflow : List ℕ) (feeds : List (List ℕ)) (written : List ℕ) : Type 0 where
+-- The workflow says plans, one a stream; the bytes are their feeds; where a position is given for a feed, just its groups up
+-- to the last that lies within the position are there; all groups that are there are sound; and what is written is the dump
+-- of the rows that the streams keep, under the tables of the first plan.
+pub record RunIsRight (workflow : List ℕ) (feeds : List (List ℕ)) (until : List UntilValue) (written : List ℕ) : Type 0 where
   pub plans : List PlanValue
   pub says : plans_of workflow ≡ Ok plans
+  pub whole : List FeedValue
+  pub fed : AreOpened plans feeds whole
   pub opened : List FeedValue
-  pub fed : AreOpened plans feeds opened
+  pub ended : AreEnded until whole opened
   pub sound : AreSound opened
   pub rows : DumpRowsValue
   pub kept : AreKeptRows opened rows
@@ -63,4 +69,4 @@ pub record RunIsRight (workflow : List ℕ) (feeds : List (List ℕ)) (written :
 abbrev pub WritesRight : RunInputs → Written → Written → Type 0
 WritesRight inputs old new =
     (feeds : List (List ℕ)) × (map (feed_bytes inputs.feed_form) (bytes_of inputs.feeds.items) ≡ map Some feeds)
-    × (text : List ℕ) × RunIsRight inputs.workflow.items feeds text × IsWritten old new text
+    × (text : List ℕ) × RunIsRight inputs.workflow.items feeds (map until_value inputs.until.now) text × IsWritten old new text

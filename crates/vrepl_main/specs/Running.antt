@@ -1,5 +1,5 @@
 -- What `run` prints of a workflow with its feeds, and why it refuses (this profile).
-use Rattle.std.specs.Prelude.{◌≡◌, ℕ, List, Some, Result, Ok, Err, slice_get}
+use Rattle.std.specs.Prelude.{◌≡◌, ℕ, List, map, Some, Result, Ok, Err, slice_get}
 use Rattle.std.specs.Arc.{arc_value}
 use Rattle.filter_rule.specs.PlanValue.{PlanValue}
 use Rattle.vdiff_core.specs.Dump.{dump_of}
@@ -18,18 +18,20 @@ use Rattle.apply_core.specs.declared.run_refusal.RunRefusal.{RunRefusal}
 use Rattle.apply_core.specs.declared.run_refusal.RunRefusal.TheVariants.{FeedCount, WrongPlan, Unsound, OwnedByOther, Memory}
 use Rattle.vrepl_main.specs.Command.{RefusesCommand, Ends}
 use Rattle.vrepl_main.specs.Opening.{OpenedValue, opened}
+use Rattle.vrepl_main.specs.Ending.{opened_until}
 use Rattle.vrepl_main.specs.Printing.{PrintsOrBreaks}
 use Rattle.vrepl_main.specs.Reasons.{Reason, RefusesInputs}
 use Rattle.vrepl_main.specs.RefusedText.{refused_text}
 use Rattle.vrepl_main.specs.Refusals.{refusal_line}
 use Rattle.vrepl_main.specs.declared.running.RunFault.{RunFault}
 use Rattle.vrepl_main.specs.declared.running.RunFault.TheVariants.{Given, Stream}
+use Rattle.vrepl_choices.specs.UntilValue.{until_value}
 use Rattle.vrepl_main.specs.InputList.{bytes_of}
 use Rattle.vrepl_main.specs.declared.named_inputs.RunInputs.{RunInputs}
 
--- the workflow with its feeds, or why they are refused
+-- the workflow with its feeds, each up to the position that is given for it, or why they are refused
 abbrev pub opened_asked : RunInputs → Result OpenedValue Reason
-opened_asked inputs = opened inputs.feed_form inputs.workflow.items (bytes_of inputs.feeds.items)
+opened_asked inputs = opened_until (map until_value inputs.until.now) (opened inputs.feed_form inputs.workflow.items (bytes_of inputs.feeds.items))
 
 -- ---- the board
 

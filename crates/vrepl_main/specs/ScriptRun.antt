@@ -1,5 +1,6 @@
 -- What the lines of a script reply over a workflow with its feeds, and what they leave (this profile).
-use Rattle.std.specs.Prelude.{◌≡◌, ℕ, nat_lt, if◌then◌else◌, List, [], ◌∷◌, Option, Some, None, Result, Ok, Err, slice_get, flat_map}
+use Rattle.std.specs.Prelude.{◌≡◌, ℕ, nat_lt, if◌then◌else◌, Bool, true, false, List, [], ◌∷◌, length, Option, Some, None, Result, Ok, Err, slice_get, flat_map}
+use Rattle.std.specs.List.{filter}
 use Rattle.std.specs.Option.{option_and_then}
 use Rattle.outcome.specs.Outcome.{◌>>=◌}
 use Rattle.filter_rule.specs.PlanValue.{PlanValue}
@@ -74,6 +75,15 @@ IsScriptRun feeds old (step ∷ steps) (reply ∷ replies) new =
 abbrev pub IsTold : ScriptReply → Type 0
 IsTold (answers (Err (Refused Memory))) = ⊥
 IsTold reply = Unit {0}
+
+-- it is the refusal of a step
+abbrev pub is_refused : ScriptReply → Bool
+is_refused (answers (Err refusal)) = true
+is_refused reply = false
+
+-- how many of the replies are refusals
+abbrev pub refused_count : List ScriptReply → ℕ
+refused_count replies = length (filter is_refused replies)
 
 -- ---- text
 

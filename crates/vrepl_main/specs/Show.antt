@@ -7,7 +7,7 @@ use Rattle.source_feed.specs.Groups.{groups}
 use Rattle.vrepl_choices.specs.declared.feed_form.FeedForm.{FeedForm}
 use Rattle.vrepl_main.specs.Reasons.{Reason, bad_hex, bad_feed}
 use Rattle.vrepl_main.specs.HexText.{feed_bytes}
-use Rattle.vrepl_main.specs.Shown.{shown}
+use Rattle.feed_text.specs.Shown.{shown}
 
 -- whose feed it is
 abbrev pub shown_source : List ℕ → List ℕ → SourceValue

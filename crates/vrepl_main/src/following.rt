@@ -17,7 +17,7 @@ use crate::refusal::{CommandRefusal, refuse};
 use crate::refusal_line::refuse_over;
 use crate::running::{open_streams, refuse_run, run_on_from, run_streams};
 use crate::stepping::first_plan;
-use apply_core::{FedBoard, ResumeFault, RunRefusal, save as checkpoint_of};
+use apply_core::{Board, FedBoard, ResumeFault, RunRefusal, save as checkpoint_of};
 use filter_rule::Plan;
 use source_feed::Feed;
 use std::alloc::{AllocError, Global};
@@ -53,6 +53,13 @@ impl<'h> Followed<'h> {
         ensures { Prints result (W.written out.old) (W.written out.new) (dump_of self.now.plan (all_rows self.now.board.rows)) }
     {
         write_rows(out, &self.plan, self.fed.board())
+    }
+
+    /// The board. Takes no memory.
+    pub fn board(&self) -> &Board<'h>
+        ensures { result.now ≡ self.now.board }
+    {
+        self.fed.board()
     }
 }
 
@@ -101,15 +108,16 @@ impl From<AllocError> for Unfollowed {
 }
 
 /// Moves a checkpoint on, over a workflow and its feeds, one in the order of the streams each: from the board that it
-/// makes with them, or from the beginning where there is none, all streams run to their feeds' ends. The answer is the
-/// board there and its checkpoint. In threads the gate is told of each group on its way.
+/// makes with them, or from the beginning where there is none, all streams run to their feeds' ends, or up to the positions
+/// that are given. The answer is the board there and its checkpoint. The gate is told of each group on its way, and of the
+/// end.
 ///
 /// Refused as `resume` refuses the workflow, the feeds and the checkpoint, in this order, and then as `run` refuses the
 /// streams. Any other error is want of memory.
 pub fn follow<'h, R: Threads + Wait + Sync, G: Progress + Sync>(
     rt: &R,
     alloc: Global,
-    inputs: &FollowInputs<'h, '_>,
+    inputs: &FollowInputs<'h, '_, '_>,
     gate: &G,
 ) -> Result<Followed<'h>, Unfollowed>
     ensures followed { IfOk result (IsFollowed (follow_asked inputs.now) (saved_asked inputs.now)) }
@@ -121,6 +129,7 @@ pub fn follow<'h, R: Threads + Wait + Sync, G: Progress + Sync>(
         inputs.course.threading,
         inputs.workflow,
         inputs.feeds,
+        inputs.until,
     )?;
     let Opened { plans, feeds } = opened;
     let plan = first_plan(&plans)?;
@@ -137,7 +146,7 @@ pub fn follow<'h, R: Threads + Wait + Sync, G: Progress + Sync>(
 fn board_at_ends<'h, R: Threads + Wait + Sync, G: Progress + Sync>(
     rt: &R,
     alloc: Global,
-    inputs: &FollowInputs<'_, '_>,
+    inputs: &FollowInputs<'_, '_, '_>,
     gate: &G,
     plans: Vec<Arc<Plan>>,
     feeds: Vec<Feed<'h>>,

@@ -8,35 +8,42 @@ ghost use Rattle.apply_core.specs.Ended.{IsNamedStream};
 ghost use Rattle.vrepl_main.specs.Followed.{RefusesFollow, saved_asked, HasNotFollowed, IsEndedRun};
 ghost use Rattle.vrepl_main.specs.Given.{given_value};
 ghost use Rattle.vrepl_main.specs.OnlyFollowed.{IsMovedOn, IsOnlyFollowed, have_streams, named_plans, opened_for, only_asked, AreThere, HasMovedOn};
+ghost use Rattle.vrepl_choices.specs.UntilValue.{until_value};
+ghost use Rattle.vrepl_main.specs.Ending.{opened_until};
 ghost use Rattle.vrepl_main.specs.OpenedFeeds.{opened_value};
 ghost use Rattle.vrepl_main.specs.Reasons.{GivesOfInputs};
 
 use crate::at_once::open_feeds_at_once;
+use crate::ending::end_opened;
 use crate::following::{Followed, Unfollowed};
 use crate::given::GivenFeed;
 use crate::named_inputs::FollowInputs;
 use crate::opened::{Opened, open_feeds};
+use crate::progress::Progress;
 use crate::refusal::CommandRefusal;
 use crate::stepping::{first_plan, fresh_board};
+use crate::told_run::run_named;
 use apply_core::{FedBoard, Policy, save as checkpoint_of};
 use filter_rule::Plan;
 use source_feed::Feed;
 use std::alloc::Global;
 use std::sync::Arc;
 use std::thread::Threads;
-use vrepl_choices::Threading;
+use vrepl_choices::{Threading, Until};
 
 /// Moves these streams of a checkpoint on, over a workflow and its feeds, one in the order of the streams each: from the
 /// board that it makes with them, or from the beginning where there is none, these streams run to their feeds' ends, one
-/// after another, and the others stay as they stand. The answer is as `follow`'s. A stream of which nothing is read may
+/// after another, and the others stay as they stand. The answer is as `follow`'s; the gate is told of each group on its way,
+/// and of the end. A stream of which nothing is read may
 /// have any feed, so that an empty one serves for each that isn't named.
 ///
 /// Refused 115 behind the workflow and before the feeds where a stream isn't there, and else as `follow` refuses.
-pub fn follow_only<'h, R: Threads + Sync>(
+pub fn follow_only<'h, R: Threads + Sync, G: Progress>(
     rt: &R,
     alloc: Global,
-    inputs: &FollowInputs<'h, '_>,
+    inputs: &FollowInputs<'h, '_, '_>,
     only: &[u8],
+    gate: &G,
 ) -> Result<Followed<'h>, Unfollowed>
     ensures followed { IfOk result (IsOnlyFollowed (only_asked only.now inputs.now) only.now (saved_asked inputs.now)) }
     ensures refused { IfErr result (λ refusal. RefusesFollow refusal (only_asked only.now inputs.now) (saved_asked inputs.now)) }
@@ -49,10 +56,11 @@ pub fn follow_only<'h, R: Threads + Sync>(
         only,
         inputs.workflow,
         inputs.feeds,
+        inputs.until,
     )?;
     let Opened { plans, feeds } = opened;
     let plan = first_plan(&plans)?;
-    let fed = board_moved_on(alloc, inputs, only, plans, feeds)?;
+    let fed = board_moved_on(alloc, inputs, only, gate, plans, feeds)?;
     let checkpoint = checkpoint_of(alloc, fed.board())?;
     Ok(Followed {
         plan,
@@ -61,8 +69,27 @@ pub fn follow_only<'h, R: Threads + Sync>(
     })
 }
 
-/// The workflow, which has these streams, with its feeds.
+/// The workflow, which has these streams, with its feeds, each up to the position that is given for it.
 fn open_for<'h, R: Threads + Sync>(
+    rt: &R,
+    alloc: Global,
+    threading: Threading,
+    only: &[u8],
+    workflow: &[u8],
+    given: &'h [GivenFeed<'_>],
+    until: &[Until<'_>],
+) -> Result<Opened<'h>, CommandRefusal<'static>>
+    ensures opened { GivesOfInputs opened_value result (opened_until (map until_value until.now) (opened_for only.now workflow.now (map given_value given.entry.now))) }
+    ensures plans { IfOk result (λ opened. ArePlans (map arc_value opened.plans.items)) }
+    ensures there { IfOk result (λ opened. AreThere only.now opened.plans.items) }
+{
+    let whole = open_whole_for(rt, alloc, threading, only, workflow, given)?;
+    let opened = end_opened(alloc, whole, until)?;
+    Ok(opened)
+}
+
+/// The same with whole feeds.
+fn open_whole_for<'h, R: Threads + Sync>(
     rt: &R,
     alloc: Global,
     threading: Threading,
@@ -124,10 +151,11 @@ fn is_below(count: usize, number: u8) -> bool
 }
 
 /// The board on which these streams have moved on, from that of the checkpoint or from the beginning, with its feeds.
-fn board_moved_on<'h>(
+fn board_moved_on<'h, G: Progress>(
     alloc: Global,
-    inputs: &FollowInputs<'_, '_>,
+    inputs: &FollowInputs<'_, '_, '_>,
     only: &[u8],
+    gate: &G,
     plans: Vec<Arc<Plan>>,
     feeds: Vec<Feed<'h>>,
 ) -> Result<FedBoard<'h>, Unfollowed>
@@ -141,20 +169,21 @@ fn board_moved_on<'h>(
     let policy = &inputs.course.policy;
     let Some(bytes) = inputs.checkpoint else {
         let fed = fresh_board(alloc, plans, feeds)?;
-        return move_on(alloc, policy, only, fed, plan);
+        return move_on(alloc, policy, only, gate, fed, plan);
     };
     let fed = match FedBoard::resume(alloc, &plans, feeds, bytes) {
         Ok(fed) => fed,
         Err(fault) => return Err(Unfollowed::Checkpoint { plan, fault }),
     };
-    move_on(alloc, policy, only, fed, plan)
+    move_on(alloc, policy, only, gate, fed, plan)
 }
 
 /// The board on which these streams have moved on from where it stood.
-fn move_on<'h>(
+fn move_on<'h, G: Progress>(
     alloc: Global,
     policy: &Policy,
     only: &[u8],
+    gate: &G,
     mut fed: FedBoard<'h>,
     plan: Arc<Plan>,
 ) -> Result<FedBoard<'h>, Unfollowed>
@@ -162,7 +191,7 @@ fn move_on<'h>(
     ensures moved { IfOk result (λ moved. IsMovedOn fed.entry.feeds only.now fed.entry.board moved.board) }
     ensures refused { IfErr result (IsEndedRun plan fed.entry.feeds) }
 {
-    match fed.run_streams(alloc, only, policy) {
+    match run_named(alloc, &mut fed, only, policy, gate) {
         Ok(()) => {
             fed.is_fed();
             Ok(fed)

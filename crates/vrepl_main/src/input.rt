@@ -7,6 +7,7 @@ ghost use Rattle.std.specs.IoError.{error_kind};
 ghost use Rattle.std.specs.declared.io.ErrorKind.TheVariants.{OutOfMemory};
 ghost use Rattle.vrepl_main.specs.Inputs.{is_standard, input_name, IsUnread, IsUnreadAmong};
 
+use crate::progress::{Reading, Untold};
 use crate::refusal::CommandRefusal;
 use std::alloc::Global;
 use std::fs::{File, OpenFile};
@@ -65,10 +66,11 @@ impl<'w> InputName<'w> {
     }
 }
 
-/// The bytes of inputs, read one after another. The first that can't be read is refused, and then no
-/// later one is asked for.
-pub fn read_inputs<'w, R: Files + Input + AllocGlobal>(
+/// The bytes of inputs, read one after another, of which `told` is told. The first that can't be read is
+/// refused, and then no later one is asked for.
+pub fn read_inputs<'w, R: Files + Input + AllocGlobal, G: Reading>(
     rt: &R,
+    told: &G,
     names: &[InputName<'w>],
 ) -> Result<Vec<Vec<u8>>, CommandRefusal<'w>>
     ensures all { IfOk result (λ inputs. length inputs.items ≡ length names.now) }
@@ -76,7 +78,7 @@ pub fn read_inputs<'w, R: Files + Input + AllocGlobal>(
 {
     let mut inputs = Vec::with_capacity(rt.alloc(), names.len())?;
     for name in names {
-        let read = read_input(rt, *name)?;
+        let read = read_input(rt, told, *name)?;
         if inputs.push(read).is_err() {
             return Err(CommandRefusal::Memory);
         }
@@ -84,16 +86,17 @@ pub fn read_inputs<'w, R: Files + Input + AllocGlobal>(
     Ok(inputs)
 }
 
-/// The bytes of an input.
-pub fn read_input<'w, R: Files + Input + AllocGlobal>(
+/// The bytes of an input, of which `told` is told.
+pub fn read_input<'w, R: Files + Input + AllocGlobal, G: Reading>(
     rt: &R,
+    told: &G,
     name: InputName<'w>,
 ) -> Result<Vec<u8>, CommandRefusal<'w>>
     ensures refused { IfErr result (IsUnread (input_name name.entry)) }
 {
     let read = match name {
-        InputName::Standard => read_whole(rt.alloc(), &mut rt.reader()),
-        InputName::File(file) => read_file(rt, file),
+        InputName::Standard => read_behind(Vec::new(rt.alloc()), told, &mut rt.reader(), READS),
+        InputName::File(file) => read_file(rt, told, file),
     };
     match read {
         Ok(bytes) => Ok(bytes),
@@ -112,10 +115,14 @@ fn unread<'w>(fault: InputFault, name: InputName<'w>) -> CommandRefusal<'w>
 }
 
 /// The bytes of the file of this name, which may be `-`.
-fn read_file<R: Files + AllocGlobal>(rt: &R, file: &str) -> Result<Vec<u8>, InputFault> {
+fn read_file<R: Files + AllocGlobal, G: Reading>(
+    rt: &R,
+    told: &G,
+    file: &str,
+) -> Result<Vec<u8>, InputFault> {
     let opened = File::open(rt, file);
     let room = length_of(&opened);
-    read_opened(rt.alloc(), opened, room)
+    read_opened(rt.alloc(), told, opened, room)
 }
 
 /// How many bytes a file is said to have, of which some may lack or more come; 0 where it isn't said.
@@ -140,8 +147,9 @@ fn none_with_room(alloc: Global, room: usize) -> Vec<u8>
 }
 
 /// The bytes of a file that was opened, or why it wasn't. Where there is memory, room for so many is made first.
-fn read_opened<F: Read + Drop>(
+fn read_opened<F: Read + Drop, G: Reading>(
     alloc: Global,
+    told: &G,
     opened: io::Result<F>,
     room: usize,
 ) -> Result<Vec<u8>, InputFault>
@@ -149,7 +157,7 @@ fn read_opened<F: Read + Drop>(
     ensures unopened { IfErr opened (λ _. IsErr result) }
 {
     match opened {
-        Ok(mut file) => read_behind(none_with_room(alloc, room), &mut file, READS),
+        Ok(mut file) => read_behind(none_with_room(alloc, room), told, &mut file, READS),
         Err(fault) => Err(fault_of(&fault)),
     }
 }
@@ -170,12 +178,13 @@ pub fn read_within<R: Read>(alloc: Global, input: &mut R, reads: u64) -> Result<
     ensures end { OnOk result (IsAtEnd (R.remaining input.new)) }
     ensures limit { IfSome (R.remaining input.old) (λ left. reads * CHUNK ≤ length left → IsErr result) }
 {
-    read_behind(Vec::new(alloc), input, reads)
+    read_behind(Vec::new(alloc), &Untold, input, reads)
 }
 
-/// The same in a vector in which nothing is yet.
-fn read_behind<R: Read>(
+/// The same in a vector in which nothing is yet; `told` is told of each read.
+fn read_behind<R: Read, G: Reading>(
     mut bytes: Vec<u8>,
+    told: &G,
     input: &mut R,
     reads: u64,
 ) -> Result<Vec<u8>, InputFault>
@@ -192,6 +201,7 @@ fn read_behind<R: Read>(
                 if bytes.extend_from_slice(&chunk[..count]).is_err() {
                     return Err(InputFault::Memory);
                 }
+                told.has_read(count);
             }
             Err(fault) => {
                 if fault.kind() != io::ErrorKind::Interrupted {

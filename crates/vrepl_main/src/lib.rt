@@ -1,10 +1,12 @@
 //! The commands of the program `vrepl`: words, bytes and writers in; bytes and a status out.
 #![tactic(auto)]
 
+mod ahead;
 mod answer_text;
 mod at_once;
 mod comparing;
 mod dump;
+mod ending;
 mod following;
 mod following_only;
 mod given;
@@ -32,6 +34,7 @@ mod showing;
 mod shown;
 mod state_text;
 mod stepping;
+mod told_run;
 
 pub use comparing::{Verdict, vdiff};
 pub use following::{Followed, Unfollowed, follow, refuse_unfollowed};
@@ -46,10 +49,10 @@ pub use named_inputs::{
     read_resume, read_run, read_step,
 };
 pub use opened::open_workflow;
-pub use progress::{Progress, Untold};
+pub use progress::{Progress, Reading, Untold};
 pub use refusal::{CommandRefusal, refuse};
 pub use resuming::resume;
 pub use running::run;
-pub use saving::{save, saved_checkpoint};
+pub use saving::{Saved, save, saved_checkpoint, tell_refused};
 pub use showing::show;
 pub use stepping::step;

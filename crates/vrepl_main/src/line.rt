@@ -89,7 +89,10 @@ fn print_answer_or_refusal<W: Out>(
 }
 
 /// Where a stream stands, by its numbers and its position, if there is one.
-fn place_of<'b>(fed: &'b FedBoard<'_>, stream: u32) -> Option<(Cursor, Option<&'b GtidSet>)>
+pub(crate) fn place_of<'b>(
+    fed: &'b FedBoard<'_>,
+    stream: u32,
+) -> Option<(Cursor, Option<&'b GtidSet>)>
     ensures { option_map (λ place. (place.0, option_map_or (λ set. set.now) place.1 [])) result ≡ option_map where_of (standing_in fed.entry.now.board stream) }
 {
     let s = byte_of(stream)?;

@@ -7,10 +7,11 @@ ghost use Rattle.vrepl_main.specs.declared.input.InputName.TheVariants.{File, St
 use crate::given::GivenFeed;
 use crate::input::{InputName, read_input, read_inputs};
 use crate::input_list::{file_names, run_inputs};
+use crate::progress::{Reading, Untold};
 use crate::refusal::CommandRefusal;
 use apply_core::Policy;
 use std::rt::Files;
-use vrepl_choices::{FeedForm, Threading};
+use vrepl_choices::{FeedForm, Threading, Until};
 
 /// How streams are run.
 #[derive(Clone, Copy)]
@@ -23,7 +24,7 @@ pub struct RunCourse {
 
 /// The inputs of `run`.
 #[derive(Drop)]
-pub struct RunInputs {
+pub struct RunInputs<'u, 'w> {
     /// How the streams are run.
     pub course: RunCourse,
     /// How the feeds are given.
@@ -32,6 +33,8 @@ pub struct RunInputs {
     pub workflow: Vec<u8>,
     /// The feeds, one in the order of the streams each.
     pub feeds: Vec<Vec<u8>>,
+    /// Up to which positions the feeds are read; none for whole ones.
+    pub until: &'u [Until<'w>],
 }
 
 /// The inputs of `step` and of `save`.
@@ -58,7 +61,7 @@ pub struct ResumeInputs {
 
 /// The inputs of `follow`, of whose feeds the bytes are given, since the board behind them lies over these.
 #[derive(Clone, Copy)]
-pub struct FollowInputs<'h, 'f> {
+pub struct FollowInputs<'h, 'f, 'w> {
     /// How the streams are run.
     pub course: RunCourse,
     /// The checkpoint that is moved on, never hexadecimal text; none for one from the beginning.
@@ -67,6 +70,8 @@ pub struct FollowInputs<'h, 'f> {
     pub workflow: &'h [u8],
     /// The bytes of the feeds, one in the order of the streams each.
     pub feeds: &'h [GivenFeed<'f>],
+    /// Up to which positions the feeds are read; none for whole ones.
+    pub until: &'h [Until<'w>],
 }
 
 /// The inputs of `join`.
@@ -101,31 +106,35 @@ pub struct JoinFiles<'n, 'w> {
 
 /// Reads the inputs of `run`: the workflow's file, and the feeds' files. The first that can't be read is refused, and
 /// then no later one is asked for.
-pub fn read_run<'w, R: Files + Input + AllocGlobal>(
+pub fn read_run<'u, 'w, R: Files + Input + AllocGlobal>(
     rt: &R,
     course: RunCourse,
     feed_form: FeedForm,
     workflow: &'w str,
     feeds: &[&'w str],
-) -> Result<RunInputs, CommandRefusal<'w>>
+    until: &'u [Until<'w>],
+) -> Result<RunInputs<'u, 'w>, CommandRefusal<'w>>
     ensures course { IfOk result (λ inputs. inputs.course ≡ course) }
     ensures feed_form { IfOk result (λ inputs. inputs.feed_form ≡ feed_form) }
+    ensures until { IfOk result (λ inputs. inputs.until.now ≡ until.entry.now) }
     ensures refused { IfErr result (IsUnreadAmong (File workflow.entry ∷ map File feeds.now)) }
 {
-    let plans = read_input(rt, InputName::File(workflow))?;
-    let texts = read_files(rt, feeds)?;
+    let plans = read_input(rt, &Untold, InputName::File(workflow))?;
+    let texts = read_files(rt, &Untold, feeds)?;
     Ok(RunInputs {
         course,
         feed_form,
         workflow: plans,
         feeds: texts,
+        until,
     })
 }
 
 /// Reads the inputs of `step` and of `save`: the workflow's file, the feeds' files, and the script from standard
-/// input. The first that can't be read is refused.
-pub fn read_step<'w, R: Files + Input + AllocGlobal>(
+/// input. The first that can't be read is refused. `told` is told of what is read.
+pub fn read_step<'w, R: Files + Input + AllocGlobal, G: Reading>(
     rt: &R,
+    told: &G,
     feed_form: FeedForm,
     workflow: &'w str,
     feeds: &[&'w str],
@@ -133,9 +142,9 @@ pub fn read_step<'w, R: Files + Input + AllocGlobal>(
     ensures feed_form { IfOk result (λ inputs. inputs.feed_form ≡ feed_form) }
     ensures refused { IfErr result (IsUnreadAmong (File workflow.entry ∷ (map File feeds.now ++ Standard ∷ []))) }
 {
-    let plans = read_input(rt, InputName::File(workflow))?;
-    let texts = read_files(rt, feeds)?;
-    let script = read_input(rt, InputName::Standard)?;
+    let plans = read_input(rt, told, InputName::File(workflow))?;
+    let texts = read_files(rt, told, feeds)?;
+    let script = read_input(rt, told, InputName::Standard)?;
     Ok(Inputs {
         feed_form,
         workflow: plans,
@@ -145,8 +154,9 @@ pub fn read_step<'w, R: Files + Input + AllocGlobal>(
 }
 
 /// Reads the inputs of `resume`: the checkpoint's file, and then those of `step`.
-pub fn read_resume<'w, R: Files + Input + AllocGlobal>(
+pub fn read_resume<'w, R: Files + Input + AllocGlobal, G: Reading>(
     rt: &R,
+    told: &G,
     feed_form: FeedForm,
     checkpoint: &'w str,
     workflow: &'w str,
@@ -155,8 +165,8 @@ pub fn read_resume<'w, R: Files + Input + AllocGlobal>(
     ensures feed_form { IfOk result (λ inputs. inputs.step.feed_form ≡ feed_form) }
     ensures refused { IfErr result (IsUnreadAmong (File checkpoint.entry ∷ File workflow.entry ∷ (map File feeds.now ++ Standard ∷ []))) }
 {
-    let saved = read_input(rt, InputName::File(checkpoint))?;
-    let step = read_step(rt, feed_form, workflow, feeds)?;
+    let saved = read_input(rt, told, InputName::File(checkpoint))?;
+    let step = read_step(rt, told, feed_form, workflow, feeds)?;
     Ok(ResumeInputs {
         checkpoint: saved,
         step,
@@ -164,19 +174,20 @@ pub fn read_resume<'w, R: Files + Input + AllocGlobal>(
 }
 
 /// Reads the inputs of `join`: the workflow's file, the checkpoints' files in their order, and the feeds' files.
-pub fn read_join<'w, R: Files + Input + AllocGlobal>(
+pub fn read_join<'w, R: Files + Input + AllocGlobal, G: Reading>(
     rt: &R,
+    told: &G,
     feed_form: FeedForm,
     files: &JoinFiles<'_, 'w>,
 ) -> Result<JoinInputs, CommandRefusal<'w>>
     ensures feed_form { IfOk result (λ inputs. inputs.feed_form ≡ feed_form) }
     ensures refused { IfErr result (IsUnreadAmong (File files.now.workflow ∷ File files.now.one ∷ File files.now.other ∷ (map File files.now.more.now ++ map File files.now.feeds.now))) }
 {
-    let workflow = read_input(rt, InputName::File(files.workflow))?;
-    let one = read_input(rt, InputName::File(files.one))?;
+    let workflow = read_input(rt, told, InputName::File(files.workflow))?;
+    let one = read_input(rt, told, InputName::File(files.one))?;
     let names = run_inputs(rt.alloc(), files.other, files.more)?;
-    let others = read_inputs(rt, &names)?;
-    let feeds = read_files(rt, files.feeds)?;
+    let others = read_inputs(rt, told, &names)?;
+    let feeds = read_files(rt, told, files.feeds)?;
     Ok(JoinInputs {
         feed_form,
         workflow,
@@ -187,13 +198,14 @@ pub fn read_join<'w, R: Files + Input + AllocGlobal>(
 }
 
 /// The bytes of files, read one after another, as `read_inputs` reads them.
-fn read_files<'w, R: Files + Input + AllocGlobal>(
+fn read_files<'w, R: Files + Input + AllocGlobal, G: Reading>(
     rt: &R,
+    told: &G,
     files: &[&'w str],
 ) -> Result<Vec<Vec<u8>>, CommandRefusal<'w>>
     ensures all { IfOk result (λ read. length read.items ≡ length files.now) }
     ensures refused { IfErr result (IsUnreadAmong (map File files.now)) }
 {
     let names = file_names(rt.alloc(), files)?;
-    read_inputs(rt, &names)
+    read_inputs(rt, told, &names)
 }

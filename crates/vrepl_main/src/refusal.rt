@@ -8,6 +8,7 @@ ghost use Rattle.vrepl_main.specs.Printing.{PrintsOrBreaks};
 use crate::hex_text::HexFault;
 use crate::output::{put_all, put_named, put_str};
 use crate::refusal_line::{Telling, refuse_by};
+use feed_ends::EndFault;
 use filter_rule::{PlanFault, Table};
 use source_feed::FeedFault;
 use std::alloc::AllocError;
@@ -26,6 +27,8 @@ pub enum CommandRefusal<'w> {
     NoStream,
     /// 119: there aren't as many feeds as streams.
     FeedCount,
+    /// 128: the feed of a stream, from 0, doesn't reach the position up to which it is to be read.
+    NotReached { stream: usize },
     /// The feed is refused, by its own number.
     Feed(FeedFault),
     /// 93: a feed that is to be hexadecimal text is not.
@@ -52,6 +55,7 @@ impl CommandRefusal<'_> {
             CommandRefusal::Workflow(fault) => fault.number(),
             CommandRefusal::NoStream => 115,
             CommandRefusal::FeedCount => 119,
+            CommandRefusal::NotReached { .. } => 128,
             CommandRefusal::Feed(fault) => fault.number(),
             CommandRefusal::BadHex => 93,
             CommandRefusal::BadScript { .. } => 120,
@@ -84,6 +88,22 @@ impl<'w> From<FeedFault> for CommandRefusal<'w> {
         match fault {
             FeedFault::Memory => CommandRefusal::Memory,
             fault => CommandRefusal::Feed(fault),
+        }
+    }
+}
+
+impl<'w> From<EndFault> for CommandRefusal<'w> {
+    ghost use Rattle.std.specs.Prelude.{◌≡◌};
+    ghost use Rattle.vrepl_main.specs.RefusalOf.{refusal_of_end};
+
+    ghost from_gives = { λ fault refusal. refusal ≡ refusal_of_end fault };
+
+    fn from(fault: EndFault) -> CommandRefusal<'w> {
+        match fault {
+            EndFault::Memory => CommandRefusal::Memory,
+            EndFault::NoStream => CommandRefusal::NoStream,
+            EndFault::BadPosition(cause) => CommandRefusal::Feed(FeedFault::BadPosition(cause)),
+            EndFault::NotReached { stream } => CommandRefusal::NotReached { stream },
         }
     }
 }
@@ -270,6 +290,9 @@ impl Telling for CommandRefusal<'_> {
             CommandRefusal::Feed(fault) => print_feed_details(err, text, fault),
             CommandRefusal::BadScript { line } | CommandRefusal::BadDump { line } => {
                 put_named(err, text, " line ", *line as u64)
+            }
+            CommandRefusal::NotReached { stream } => {
+                put_named(err, text, " stream ", *stream as u64)
             }
             CommandRefusal::Memory
             | CommandRefusal::NoStream

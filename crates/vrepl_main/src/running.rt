@@ -9,7 +9,9 @@ ghost use Rattle.apply_core.specs.RunRefused.{EndsRun, IsLowest, IsRefusedRun};
 ghost use Rattle.vrepl_main.specs.Command.{IsUnwritten};
 ghost use Rattle.vrepl_main.specs.Given.{given_value};
 ghost use Rattle.filter_rule.specs.WellFormed.{ArePlans};
-ghost use Rattle.vrepl_main.specs.OpenedFeeds.{opened_value, opened_given};
+ghost use Rattle.vrepl_choices.specs.UntilValue.{until_value};
+ghost use Rattle.vrepl_main.specs.Ending.{opened_until};
+ghost use Rattle.vrepl_main.specs.OpenedFeeds.{HasPlans, opened_value, opened_given};
 ghost use Rattle.vrepl_main.specs.Opening.{opened_bytes};
 ghost use Rattle.vrepl_main.specs.Reasons.{GivesOfInputs};
 ghost use Rattle.vrepl_main.specs.Printing.{PrintsOrBreaks};
@@ -19,13 +21,15 @@ ghost use Rattle.vrepl_main.specs.RunIsRight.{WritesRight};
 
 use crate::at_once::open_at_once;
 use crate::dump::write_rows;
+use crate::ending::end_opened;
 use crate::given::{GivenFeed, given_feeds};
 use crate::named_inputs::{RunCourse, RunInputs};
 use crate::opened::{Opened, open_workflow};
-use crate::progress::{Progress, tell_feeds};
+use crate::progress::Progress;
 use crate::refusal::{CommandRefusal, refuse};
 use crate::refusal_line::refuse_over;
 use crate::stepping::first_plan;
+use crate::told_run::{run_in_threads, run_in_turn};
 use apply_core::{Board, FedBoard, RunRefusal};
 use board_laws::StepRefusal;
 use filter_rule::Plan;
@@ -34,9 +38,8 @@ use std::alloc::Global;
 use std::mem::forget;
 use std::sync::{Arc, Wait};
 use std::thread::Threads;
-use stream_worker::run_fed_parallel;
 use vdiff_core::Out;
-use vrepl_choices::Threading;
+use vrepl_choices::{Threading, Until};
 
 /// Why a run prints no dump.
 #[derive(Drop)]
@@ -52,16 +55,17 @@ enum RunFault {
     },
 }
 
-/// Runs all streams of a workflow over its feeds, one in the order of the streams each, to their ends, and prints
+/// Runs all streams of a workflow over its feeds, one in the order of the streams each, to their ends, or up to the positions
+/// that are given, and prints
 /// the dump of the target's rows on `out`; or prints the line of a refusal on `err` and then nothing on `out`, unless it
-/// is `out` that can't be written. The streams run as the course says: one after another, or each in a thread of its own,
-/// and then the gate is told of each group on its way. Answers the status: 0, or 1 after a refusal, also of memory. Behind
-/// the run the groups of its feeds are forgotten, and behind the dump its rows are: they go back with the memory of the
-/// process. Where the dump can't be written the rows are given back.
+/// is `out` that can't be written. The streams run as the course says: one after another, or each in a thread of its own;
+/// the gate is told of each group on its way, and of the end. Answers the status: 0, or 1 after a refusal, also of memory.
+/// Behind the run the groups of its feeds are forgotten, and behind the dump its rows are: they go back with the memory of
+/// the process. Where the dump can't be written the rows are given back.
 pub fn run<R: Threads + Wait + Sync, G: Progress + Sync, W: Out, E: Out>(
     rt: &R,
     alloc: Global,
-    inputs: &RunInputs,
+    inputs: &RunInputs<'_, '_>,
     gate: &G,
     out: &mut W,
     err: &mut E,
@@ -108,7 +112,7 @@ pub(crate) fn refuse_run<E: Out>(err: &mut E, plan: &Plan, refusal: RunRefusal) 
 fn print_run<R: Threads + Wait + Sync, G: Progress + Sync, W: Out>(
     rt: &R,
     alloc: Global,
-    inputs: &RunInputs,
+    inputs: &RunInputs<'_, '_>,
     gate: &G,
     out: &mut W,
 ) -> Result<(), RunFault>
@@ -145,15 +149,22 @@ fn print_rows<W: Out>(
 fn filled_board<'h, R: Threads + Wait + Sync, G: Progress + Sync>(
     rt: &R,
     alloc: Global,
-    inputs: &RunInputs,
+    inputs: &RunInputs<'_, '_>,
     gate: &G,
     given: &'h [GivenFeed<'_>],
 ) -> Result<(Arc<Plan>, FedBoard<'h>), RunFault>
-    ensures filled { IfOk result (λ filled. IsFilled (opened_given inputs.now.workflow.items given.entry.now) (record { plan = arc_value filled.0; rows = all_rows filled.1.board.rows })) }
-    ensures refused { IfErr result (λ fault. IsUnfilled fault (opened_given inputs.now.workflow.items given.entry.now)) }
+    ensures filled { IfOk result (λ filled. IsFilled (opened_until (map until_value inputs.now.until.now) (opened_given inputs.now.workflow.items given.entry.now)) (record { plan = arc_value filled.0; rows = all_rows filled.1.board.rows })) }
+    ensures refused { IfErr result (λ fault. IsUnfilled fault (opened_until (map until_value inputs.now.until.now) (opened_given inputs.now.workflow.items given.entry.now))) }
 {
     let course = inputs.course;
-    let opened = match open_streams(rt, alloc, course.threading, &inputs.workflow, given) {
+    let opened = match open_streams(
+        rt,
+        alloc,
+        course.threading,
+        &inputs.workflow,
+        given,
+        inputs.until,
+    ) {
         Ok(opened) => opened,
         Err(refusal) => return Err(RunFault::Given(refusal)),
     };
@@ -167,8 +178,26 @@ fn filled_board<'h, R: Threads + Wait + Sync, G: Progress + Sync>(
     }
 }
 
-/// The workflow with its feeds, which are opened as the streams run: one after another, or at once.
+/// The workflow with its feeds, which are opened as the streams run, one after another or at once, and each up to the
+/// position that is given for it.
 pub(crate) fn open_streams<'h, R: Threads + Sync>(
+    rt: &R,
+    alloc: Global,
+    threading: Threading,
+    workflow: &[u8],
+    given: &'h [GivenFeed<'_>],
+    until: &[Until<'_>],
+) -> Result<Opened<'h>, CommandRefusal<'static>>
+    ensures opened { GivesOfInputs opened_value result (opened_until (map until_value until.now) (opened_bytes workflow.now (map given_value given.entry.now))) }
+    ensures plans { IfOk result (λ opened. ArePlans (map arc_value opened.plans.items)) }
+{
+    let whole = open_whole(rt, alloc, threading, workflow, given)?;
+    let opened = end_opened(alloc, whole, until)?;
+    Ok(opened)
+}
+
+/// The same with whole feeds.
+fn open_whole<'h, R: Threads + Sync>(
     rt: &R,
     alloc: Global,
     threading: Threading,
@@ -176,7 +205,7 @@ pub(crate) fn open_streams<'h, R: Threads + Sync>(
     given: &'h [GivenFeed<'_>],
 ) -> Result<Opened<'h>, CommandRefusal<'static>>
     ensures opened { GivesOfInputs opened_value result (opened_bytes workflow.now (map given_value given.entry.now)) }
-    ensures plans { IfOk result (λ opened. ArePlans (map arc_value opened.plans.items)) }
+    ensures plans { IfOk result HasPlans }
 {
     match threading {
         Threading::Alone => open_workflow(alloc, workflow, given),
@@ -218,13 +247,12 @@ pub(crate) fn run_on_from<'h, R: Threads + Wait + Sync, G: Progress + Sync>(
 {
     match course.threading {
         Threading::Alone => {
-            fed.run(alloc, &course.policy)?;
+            run_in_turn(alloc, &mut fed, &course.policy, gate)?;
             fed.is_fed();
             Ok(fed)
         }
         Threading::Parallel => {
-            tell_feeds(gate, fed.feeds());
-            let fed = run_fed_parallel(rt, alloc, fed, &course.policy, gate)?;
+            let fed = run_in_threads(rt, alloc, fed, &course.policy, gate)?;
             fed.is_fed();
             Ok(fed)
         }

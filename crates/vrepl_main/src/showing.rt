@@ -2,7 +2,7 @@
 
 ghost use Rattle.std.specs.Prelude.{◌≡◌, Some};
 ghost use Rattle.vrepl_main.specs.HexText.{hex_bytes};
-ghost use Rattle.vrepl_main.specs.Shown.{shown};
+ghost use Rattle.feed_text.specs.Shown.{shown};
 ghost use Rattle.vrepl_main.specs.Show.{shown_feed, shown_bytes, shown_source};
 ghost use Rattle.vdiff_core.specs.Printing.{Prints};
 ghost use Rattle.vrepl_main.specs.Command.{PrintsText, TextEnds};

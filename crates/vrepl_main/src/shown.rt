@@ -3,7 +3,7 @@
 ghost use Rattle.std.specs.Prelude.{◌∷◌, ◌++◌};
 ghost use Rattle.gtid_set.specs.Printed.{interval_text, numbers_text, printed_position, uuid_text};
 ghost use Rattle.vrepl_main.specs.Adding.{AddsText, at};
-ghost use Rattle.vrepl_main.specs.Shown.{shown_row_line, shown_row_lines, change_text, changes_text, group_line, group_text, shown};
+ghost use Rattle.feed_text.specs.Shown.{shown_row_line, shown_row_lines, change_text, changes_text, group_line, group_text, shown};
 
 use crate::output::{print_cells, put_all, put_number, put_str};
 use gtid_set::{GtidSet, Interval, uuid_text};

@@ -7,7 +7,7 @@ use Rattle.vrepl_choices.specs.declared.report_form.ReportForm.{ReportForm}
 use Rattle.vrepl_choices.specs.declared.report_form.ReportForm.TheVariants.{Lines, Json}
 use Rattle.vrepl_main.specs.Command.{IsUnwritten}
 use Rattle.vrepl_main.specs.declared.refusal.CommandRefusal.{CommandRefusal}
-use Rattle.vrepl_main.specs.declared.refusal.CommandRefusal.TheVariants.{Memory, Workflow, NoStream, FeedCount, Feed, BadHex, BadScript, BadDump, Changed, CannotRead, CannotWrite}
+use Rattle.vrepl_main.specs.declared.refusal.CommandRefusal.TheVariants.{Memory, Workflow, NoStream, FeedCount, NotReached, Feed, BadHex, BadScript, BadDump, Changed, CannotRead, CannotWrite}
 use Rattle.vrepl_main.specs.Comparison.{Compared}
 use Rattle.vrepl_vdiff.specs.Shown.{IsJsonOf, IsTextOf, PrintsSome, by_form, reports_asked}
 use Rattle.vrepl_vdiff.specs.declared.options.Options.{Options}
@@ -30,6 +30,7 @@ unwritten Shows (Workflow fault) old new text shown broken is = absurd is
 unwritten Shows NoStream old new text shown broken is = absurd is
 unwritten Shows (Changed file) old new text shown broken is = absurd is
 unwritten Shows FeedCount old new text shown broken is = absurd is
+unwritten Shows (NotReached stream) old new text shown broken is = absurd is
 unwritten Shows (Feed fault) old new text shown broken is = absurd is
 unwritten Shows BadHex old new text shown broken is = absurd is
 unwritten Shows (BadScript line) old new text shown broken is = absurd is

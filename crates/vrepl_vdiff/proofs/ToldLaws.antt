@@ -13,7 +13,7 @@ use Rattle.vdiff_core.specs.declared.reading.DumpFault.TheVariants as faults
 use Rattle.vrepl_choices.specs.declared.report_form.ReportForm.{ReportForm}
 use Rattle.vrepl_choices.specs.declared.report_form.ReportForm.TheVariants.{Lines, Json}
 use Rattle.vrepl_main.specs.declared.refusal.CommandRefusal.{CommandRefusal}
-use Rattle.vrepl_main.specs.declared.refusal.CommandRefusal.TheVariants.{Memory, Workflow, NoStream, FeedCount, Feed, BadHex, BadScript, BadDump, Changed, CannotRead, CannotWrite}
+use Rattle.vrepl_main.specs.declared.refusal.CommandRefusal.TheVariants.{Memory, Workflow, NoStream, FeedCount, NotReached, Feed, BadHex, BadScript, BadDump, Changed, CannotRead, CannotWrite}
 use Rattle.vrepl_main.specs.Reasons.{bad_workflow, bad_dump}
 use Rattle.vrepl_main.specs.RefusalOf.{refusal_of_dump, refusal_of_workflow}
 use Rattle.vrepl_main.specs.Comparison.{AreDumps, Compared}
@@ -79,6 +79,7 @@ module _ (inputs : VdiffInputs) (plan : PlanValue) (others : List PlanValue) (is
   told_source NoStream error bad same = absurd bad
   told_source (Changed file) error bad same = absurd bad
   told_source FeedCount error bad same = absurd bad
+  told_source (NotReached stream) error bad same = absurd bad
   told_source (Feed fault) error bad same = absurd bad
   told_source BadHex error bad same = absurd bad
   told_source (BadScript line) error bad same = absurd bad
@@ -98,6 +99,7 @@ module _ (inputs : VdiffInputs) (plan : PlanValue) (others : List PlanValue) (is
   told_target rows NoStream error read bad same = absurd bad
   told_target rows (Changed file) error read bad same = absurd bad
   told_target rows FeedCount error read bad same = absurd bad
+  told_target rows (NotReached stream) error read bad same = absurd bad
   told_target rows (Feed fault) error read bad same = absurd bad
   told_target rows BadHex error read bad same = absurd bad
   told_target rows (BadScript line) error read bad same = absurd bad
@@ -126,6 +128,7 @@ told_shown inputs compared (Workflow fault) error old new dumps printed none = a
 told_shown inputs compared NoStream error old new dumps printed none = absurd printed.0
 told_shown inputs compared (Changed file) error old new dumps printed none = absurd printed.0
 told_shown inputs compared FeedCount error old new dumps printed none = absurd printed.0
+told_shown inputs compared (NotReached stream) error old new dumps printed none = absurd printed.0
 told_shown inputs compared (Feed fault) error old new dumps printed none = absurd printed.0
 told_shown inputs compared BadHex error old new dumps printed none = absurd printed.0
 told_shown inputs compared (BadScript line) error old new dumps printed none = absurd printed.0

@@ -8,6 +8,8 @@ use Rattle.vrepl_choices.specs.declared.report_form.ReportForm.TheVariants.{Line
 use Rattle.vrepl_choices.specs.declared.threading.Threading.{Threading}
 use Rattle.vrepl_choices.specs.declared.threading.Threading.TheVariants.{Alone, Parallel}
 use Rattle.vrepl_words.specs.Arguments.{is_given}
+use Rattle.vrepl_words.specs.declared.words.Telling.{Telling}
+use Rattle.vrepl_words.specs.declared.words.Telling.TheVariants.{OnTerminal, Always, Never}
 
 -- with `--hex` feeds are hexadecimal text
 abbrev pub feed_form_given : List Row → FeedForm
@@ -20,3 +22,7 @@ threading_given given = if is_given (codes "alone") given then Alone else Parall
 -- with `--json` a report is one object of JSON
 abbrev pub report_form_given : List Row → ReportForm
 report_form_given given = if is_given (codes "json") given then Json else Lines
+
+-- with `--quiet` a command never tells how far it is, else with `--progress` always
+abbrev pub telling_given : List Row → Telling
+telling_given given = if is_given (codes "quiet") given then Never else (if is_given (codes "progress") given then Always else OnTerminal)

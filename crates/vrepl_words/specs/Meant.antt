@@ -1,9 +1,11 @@
 -- What the words that were read ask for.
-use Rattle.vrepl_words.specs.Words.{CheckValue, FollowValue, JoinValue, PortionsValue, ResumeValue, RunValue, SaveValue, ShowValue, StatusValue, StepValue, TilesValue, VdiffValue, WordsValue, asks_follow, asks_join, asks_run, asks_show, asks_step, asks_save, asks_resume, asks_vdiff, asks_check, asks_tiles, asks_status, asks_explain, CompactValue, asks_compact}
+use Rattle.vrepl_words.specs.Words.{CheckValue, FollowValue, JoinValue, PortionsValue, ResumeValue, RunValue, SaveValue, ShowValue, StatusValue, StepValue, TilesValue, VdiffValue, WordsValue, asks_follow, asks_join, asks_run, asks_show, asks_step, asks_save, asks_resume, asks_vdiff, asks_check, asks_tiles, asks_status, asks_explain, CompactValue, asks_compact, TranscribeValue, asks_transcribe, FeedValue, asks_feed}
 use Rattle.std.specs.Prelude.{◌≡◌, map, option_map, Option, None, Some, Result, Ok, Err}
+use Rattle.vrepl_choices.specs.UntilValue.{until_value}
 use Rattle.vrepl_words.specs.declared.portions.Portions.{Portions}
 use Rattle.vrepl_words.specs.declared.words.Check.{Check}
 use Rattle.vrepl_words.specs.declared.words.Compact.{Compact}
+use Rattle.vrepl_words.specs.declared.words.Feed.{Feed}
 use Rattle.vrepl_words.specs.declared.words.Follow.{Follow}
 use Rattle.vrepl_words.specs.declared.words.Join.{Join}
 use Rattle.vrepl_words.specs.declared.words.Resume.{Resume}
@@ -13,6 +15,7 @@ use Rattle.vrepl_words.specs.declared.words.Show.{Show}
 use Rattle.vrepl_words.specs.declared.words.Status.{Status}
 use Rattle.vrepl_words.specs.declared.words.Step.{Step}
 use Rattle.vrepl_words.specs.declared.words.Tiles.{Tiles}
+use Rattle.vrepl_words.specs.declared.words.Transcribe.{Transcribe}
 use Rattle.vrepl_words.specs.declared.words.Vdiff.{Vdiff}
 use Rattle.vrepl_words.specs.declared.words.Words.{Words}
 use Rattle.vrepl_words.specs.declared.words.Words.TheVariants as words
@@ -31,13 +34,13 @@ abbrev pub step_value : Step → StepValue
 step_value step = record { feed_form = step.feed_form; workflow = step.workflow.now; feeds = map (λ feed. feed.now) step.feeds.items }
 
 abbrev pub save_value : Save → SaveValue
-save_value save = record { save_to = option_map (λ name. name.now) save.save_to; step = step_value save.step }
+save_value save = record { save_to = option_map (λ name. name.now) save.save_to; strict = save.strict; step = step_value save.step }
 
 abbrev pub resume_value : Resume → ResumeValue
-resume_value resume = record { checkpoint = resume.checkpoint.now; step = step_value resume.step }
+resume_value resume = record { checkpoint = resume.checkpoint.now; telling = resume.telling; step = step_value resume.step }
 
 abbrev pub check_value : Check → CheckValue
-check_value check = record { report_form = check.report_form; strict = check.strict; step = step_value check.step }
+check_value check = record { report_form = check.report_form; strict = check.strict; telling = check.telling; step = step_value check.step }
 
 abbrev pub tiles_value : Tiles → TilesValue
 tiles_value tiles = record { workflows = map (λ workflow. workflow.now) tiles.workflows.items }
@@ -53,9 +56,22 @@ compact_value compact = record {
   at = option_map (λ text. text.now) compact.at;
   checkpoints = map (λ name. name.now) compact.checkpoints.items;
   drop_unknown = compact.drop_unknown;
+  telling = compact.telling;
   workflow = compact.workflow.now;
   feed = compact.feed.now;
 }
+
+abbrev pub transcribe_value : Transcribe → TranscribeValue
+transcribe_value transcribe = record {
+  save_to = option_map (λ name. name.now) transcribe.save_to;
+  shard = transcribe.shard.now;
+  schema = option_map (λ name. name.now) transcribe.schema;
+  workflow = transcribe.workflow.now;
+  logs = map (λ log. log.now) transcribe.logs.items;
+}
+
+abbrev pub feed_value : Feed → FeedValue
+feed_value feed = record { stream = feed.stream; workflow = option_map (λ name. name.now) feed.workflow }
 
 abbrev pub join_value : Join → JoinValue
 join_value join = record {
@@ -65,6 +81,7 @@ join_value join = record {
   other = join.other.now;
   more = map (λ name. name.now) join.more.items;
   save_to = option_map (λ name. name.now) join.save_to;
+  telling = join.telling;
   feeds = map (λ feed. feed.now) join.feeds.items;
 }
 
@@ -75,8 +92,9 @@ abbrev pub run_value : Run → RunValue
 run_value run = record {
   feed_form = run.feed_form;
   threading = run.threading;
-  progress = run.progress;
+  telling = run.telling;
   portions = portions_value run.portions;
+  until = map until_value run.until.items;
   workflow = run.workflow.now;
   feeds = map (λ feed. feed.now) run.feeds.items;
 }
@@ -97,6 +115,7 @@ vdiff_value files = record {
   report_form = files.report_form;
   readable = files.readable;
   sql = option_map (λ name. name.now) files.sql;
+  telling = files.telling;
   workflow = files.workflow.now;
   source = files.source.now;
   target = files.target.now;
@@ -116,6 +135,8 @@ value_of_words (words.Check check) = asks_check (check_value check)
 value_of_words (words.Tiles tiles) = asks_tiles (tiles_value tiles)
 value_of_words (words.Status status) = asks_status (status_value status)
 value_of_words (words.Compact compact) = asks_compact (compact_value compact)
+value_of_words (words.Transcribe transcribe) = asks_transcribe (transcribe_value transcribe)
+value_of_words (words.Feed feed) = asks_feed (feed_value feed)
 value_of_words (words.Explain number) = asks_explain number
 
 -- what was met asks for this, if for anything, unless a fault kept it from being read

@@ -9,9 +9,12 @@ use Rattle.clap.specs.declared.error.kind.ErrorKind.TheVariants.{ValueValidation
 use Rattle.vrepl_choices.specs.declared.feed_form.FeedForm.{FeedForm}
 use Rattle.vrepl_choices.specs.declared.report_form.ReportForm.{ReportForm}
 use Rattle.vrepl_choices.specs.declared.threading.Threading.{Threading}
-use Rattle.vrepl_words.specs.declared.numbers.TheConstants.{ROWS, AHEAD, CHUNKS, ONLY}
+use Rattle.vrepl_words.specs.declared.numbers.TheConstants.{ROWS, AHEAD, CHUNKS, ONLY, UNTIL}
 use Rattle.vrepl_words.specs.Arguments.{count_given, flag_rule, further_rule, gives_streams, is_given, needed_rule, operand_rule, operands_rule, optional_rule, option_rule, portion_given, refusal_given, stream_given, streams_given, text_given, texts_given}
-use Rattle.vrepl_words.specs.Choices.{feed_form_given, report_form_given, threading_given}
+use Rattle.vrepl_words.specs.Choices.{feed_form_given, report_form_given, telling_given, threading_given}
+use Rattle.vrepl_choices.specs.UntilValue.{UntilValue}
+use Rattle.vrepl_words.specs.Untils.{gives_untils, untils_given}
+use Rattle.vrepl_words.specs.declared.words.Telling.{Telling}
 
 -- `show`: a feed, whose it is, how it is given, and how its groups are printed
 pub record ShowValue : Type 0 where
@@ -34,12 +37,13 @@ pub record PortionsValue : Type 0 where
   pub chunks : ℕ
 
 -- `run`: a workflow, a feed for each of its streams, how feeds are given, how the streams run, whether it is told how
--- far they are, and in what portions
+-- far they are, in what portions, and up to which positions the feeds are read
 pub record RunValue : Type 0 where
   pub feed_form : FeedForm
   pub threading : Threading
-  pub progress : Bool
+  pub telling : Telling
   pub portions : PortionsValue
+  pub until : List UntilValue
   pub workflow : Text
   pub feeds : List Text
 
@@ -52,20 +56,24 @@ pub record FollowValue : Type 0 where
   pub checkpoint : Option Text
   pub save_to : Text
 
--- `resume`: a checkpoint, and what `step` is given
+-- `resume`: a checkpoint, whether it is told how far it is, and what `step` is given
 pub record ResumeValue : Type 0 where
   pub checkpoint : Text
+  pub telling : Telling
   pub step : StepValue
 
--- `save`: the file of the checkpoint, if there is one, and what `step` is given
+-- `save`: the file of the checkpoint, if there is one, whether refused steps are as a refusal, and what `step` is given
 pub record SaveValue : Type 0 where
   pub save_to : Option Text
+  pub strict : Bool
   pub step : StepValue
 
--- `check`: how the report is printed, whether notes are as warnings, and what `step` is given
+-- `check`: how the report is printed, whether notes are as warnings, whether it is told how far it is, and what `step` is
+-- given
 pub record CheckValue : Type 0 where
   pub report_form : ReportForm
   pub strict : Bool
+  pub telling : Telling
   pub step : StepValue
 
 -- `tiles`: the workflows of several targets
@@ -78,8 +86,8 @@ pub record StatusValue : Type 0 where
   pub checkpoints : List Text
 
 -- `compact`: a workflow and the feed of one of its streams, how it is given, up to which position it is compacted, if one is
--- named, which checkpoints are to go on, whether rows of other tables are left out, and the file of the new feed, if there
--- is one
+-- named, which checkpoints are to go on, whether rows of other tables are left out, whether it is told how far it is, and
+-- the file of the new feed, if there is one
 pub record CompactValue : Type 0 where
   pub feed_form : FeedForm
   pub save_to : Option Text
@@ -87,11 +95,26 @@ pub record CompactValue : Type 0 where
   pub at : Option Text
   pub checkpoints : List Text
   pub drop_unknown : Bool
+  pub telling : Telling
   pub workflow : Text
   pub feed : Text
 
--- `join`: a workflow, two checkpoints, further ones, a feed for each of its streams, how feeds are given, and the file of
--- the new checkpoint, if there is one
+-- `transcribe`: a workflow, the shard of one of its streams, the schema of its tables in a server's logs, if it is named, the
+-- logs, and the file of the new feed, if there is one
+pub record TranscribeValue : Type 0 where
+  pub save_to : Option Text
+  pub shard : Text
+  pub schema : Option Text
+  pub workflow : Text
+  pub logs : List Text
+
+-- `feed`: the workflow and the stream whose feed is written, if there is one
+pub record FeedValue : Type 0 where
+  pub stream : ℕ
+  pub workflow : Option Text
+
+-- `join`: a workflow, two checkpoints, further ones, a feed for each of its streams, how feeds are given, whether it is told
+-- how far it is, and the file of the new checkpoint, if there is one
 pub record JoinValue : Type 0 where
   pub feed_form : FeedForm
   pub workflow : Text
@@ -99,17 +122,19 @@ pub record JoinValue : Type 0 where
   pub other : Text
   pub more : List Text
   pub save_to : Option Text
+  pub telling : Telling
   pub feeds : List Text
 
 -- `vdiff`: a workflow, the dumps of a source and of a target, whether the counts of each table are printed too, how many
--- differences are, where a number is given, how all is printed, whether differences are printed as a person reads them, and
--- the schema whose rows are repaired, if one is
+-- differences are, where a number is given, how all is printed, whether differences are printed as a person reads them, the
+-- schema whose rows are repaired, if one is, and whether it is told how far it is
 pub record VdiffValue : Type 0 where
   pub tables : Bool
   pub first : Option ℕ
   pub report_form : ReportForm
   pub readable : Bool
   pub sql : Option Text
+  pub telling : Telling
   pub workflow : Text
   pub source : Text
   pub target : Text
@@ -128,6 +153,8 @@ pub data WordsValue : Type 0 where
   asks_tiles : TilesValue → WordsValue
   asks_status : StatusValue → WordsValue
   asks_compact : CompactValue → WordsValue
+  asks_transcribe : TranscribeValue → WordsValue
+  asks_feed : FeedValue → WordsValue
   -- what a refusal's number means, or all of them
   asks_explain : Option ℕ → WordsValue
 
@@ -179,50 +206,56 @@ abbrev pub bad_portion : List Row → Text
 bad_portion given =
     if is_some (portion_given 1000 (codes "rows") given) then (if is_some (portion_given 100 (codes "ahead") given) then CHUNKS.now else AHEAD.now) else ROWS.now
 
+-- what is told of the first number of `run` that is none
+abbrev pub bad_run : List Row → Text
+bad_run given = if is_some (portions_given given) then UNTIL.now else bad_portion given
+
 -- what is told of the first number of `follow` that is none
 abbrev pub bad_follow : List Row → Text
-bad_follow given = if is_some (portions_given given) then ONLY.now else bad_portion given
+bad_follow given = if gives_streams (codes "only") given then bad_run given else (if is_some (portions_given given) then ONLY.now else bad_portion given)
 
 -- what is given to the arguments of `run`
 abbrev pub run_given : List Row → PortionsValue → RunValue
 run_given given portions = record {
   feed_form = feed_form_given given;
   threading = threading_given given;
-  progress = is_given (codes "progress") given;
+  telling = telling_given given;
   portions = portions;
+  until = untils_given (codes "until") given;
   workflow = text_given (codes "workflow") given;
   feeds = texts_given (codes "feed") given;
 }
 
--- `run [--hex] [--alone] [--progress] [--rows N] [--ahead N] [--chunks N] WORKFLOW FEED..`
+-- `run [--hex] [--alone] [--progress] [--quiet] [--rows N] [--ahead N] [--chunks N] [--until TEXT].. WORKFLOW FEED..`
 abbrev pub run_subcommand : Subcommand
 run_subcommand = record {
   name = codes "run";
-  rules = flag_rule (codes "hex") ∷ flag_rule (codes "alone") ∷ flag_rule (codes "progress") ∷ option_rule (codes "rows") ∷ option_rule (codes "ahead") ∷ option_rule (codes "chunks") ∷ operand_rule (codes "workflow") ∷ operands_rule (codes "feed") ∷ [];
-  meaning = λ given. option_map (λ portions. asks_run (run_given given portions)) (portions_given given);
+  rules = flag_rule (codes "hex") ∷ flag_rule (codes "alone") ∷ flag_rule (codes "progress") ∷ flag_rule (codes "quiet") ∷ option_rule (codes "rows") ∷ option_rule (codes "ahead") ∷ option_rule (codes "chunks") ∷ further_rule (codes "until")
+      ∷ operand_rule (codes "workflow") ∷ operands_rule (codes "feed") ∷ [];
+  meaning = λ given. if gives_untils (codes "until") given then option_map (λ portions. asks_run (run_given given portions)) (portions_given given) else None;
 }
 
 -- what is given to the arguments of `save`
 abbrev pub save_given : List Row → SaveValue
-save_given given = record { save_to = first_of (codes "save-to") given; step = step_given given }
+save_given given = record { save_to = first_of (codes "save-to") given; strict = is_given (codes "strict") given; step = step_given given }
 
--- `save [--hex] [--save-to TEXT] WORKFLOW FEED..`
+-- `save [--hex] [--save-to TEXT] [--strict] WORKFLOW FEED..`
 abbrev pub save_subcommand : Subcommand
 save_subcommand = record {
   name = codes "save";
-  rules = flag_rule (codes "hex") ∷ option_rule (codes "save-to") ∷ operand_rule (codes "workflow") ∷ operands_rule (codes "feed") ∷ [];
+  rules = flag_rule (codes "hex") ∷ option_rule (codes "save-to") ∷ flag_rule (codes "strict") ∷ operand_rule (codes "workflow") ∷ operands_rule (codes "feed") ∷ [];
   meaning = λ given. Some (asks_save (save_given given));
 }
 
 -- what is given to the arguments of `resume`
 abbrev pub resume_given : List Row → ResumeValue
-resume_given given = record { checkpoint = text_given (codes "checkpoint") given; step = step_given given }
+resume_given given = record { checkpoint = text_given (codes "checkpoint") given; telling = telling_given given; step = step_given given }
 
--- `resume [--hex] --checkpoint TEXT WORKFLOW FEED..`
+-- `resume [--hex] --checkpoint TEXT [--progress] [--quiet] WORKFLOW FEED..`
 abbrev pub resume_subcommand : Subcommand
 resume_subcommand = record {
   name = codes "resume";
-  rules = flag_rule (codes "hex") ∷ needed_rule (codes "checkpoint") ∷ operand_rule (codes "workflow") ∷ operands_rule (codes "feed") ∷ [];
+  rules = flag_rule (codes "hex") ∷ needed_rule (codes "checkpoint") ∷ flag_rule (codes "progress") ∷ flag_rule (codes "quiet") ∷ operand_rule (codes "workflow") ∷ operands_rule (codes "feed") ∷ [];
   meaning = λ given. Some (asks_resume (resume_given given));
 }
 
@@ -235,14 +268,15 @@ join_given given = record {
   other = text_given (codes "other") given;
   more = texts_given (codes "also") given;
   save_to = first_of (codes "save-to") given;
+  telling = telling_given given;
   feeds = texts_given (codes "feed") given;
 }
 
--- `join [--hex] [--also TEXT].. [--save-to TEXT] WORKFLOW A B FEED..`
+-- `join [--hex] [--also TEXT].. [--save-to TEXT] [--progress] [--quiet] WORKFLOW A B FEED..`
 abbrev pub join_subcommand : Subcommand
 join_subcommand = record {
   name = codes "join";
-  rules = flag_rule (codes "hex") ∷ further_rule (codes "also") ∷ option_rule (codes "save-to") ∷ operand_rule (codes "workflow") ∷ operand_rule (codes "one") ∷ operand_rule (codes "other") ∷ operands_rule (codes "feed") ∷ [];
+  rules = flag_rule (codes "hex") ∷ further_rule (codes "also") ∷ option_rule (codes "save-to") ∷ flag_rule (codes "progress") ∷ flag_rule (codes "quiet") ∷ operand_rule (codes "workflow") ∷ operand_rule (codes "one") ∷ operand_rule (codes "other") ∷ operands_rule (codes "feed") ∷ [];
   meaning = λ given. Some (asks_join (join_given given));
 }
 
@@ -256,13 +290,13 @@ follow_given given portions = record {
   save_to = text_given (codes "save-to") given;
 }
 
--- `follow [--hex] [--alone] [--progress] [--dump] [--rows N] [--ahead N] [--chunks N] [--only S,..] [--checkpoint TEXT] --save-to TEXT WORKFLOW FEED..`
+-- `follow [--hex] [--alone] [--progress] [--quiet] [--dump] [--rows N] [--ahead N] [--chunks N] [--until TEXT].. [--only S,..] [--checkpoint TEXT] --save-to TEXT WORKFLOW FEED..`
 abbrev pub follow_subcommand : Subcommand
 follow_subcommand = record {
   name = codes "follow";
-  rules = flag_rule (codes "hex") ∷ flag_rule (codes "alone") ∷ flag_rule (codes "progress") ∷ flag_rule (codes "dump") ∷ option_rule (codes "rows") ∷ option_rule (codes "ahead") ∷ option_rule (codes "chunks") ∷ option_rule (codes "only") ∷ option_rule (codes "checkpoint") ∷ needed_rule (codes "save-to")
+  rules = flag_rule (codes "hex") ∷ flag_rule (codes "alone") ∷ flag_rule (codes "progress") ∷ flag_rule (codes "quiet") ∷ flag_rule (codes "dump") ∷ option_rule (codes "rows") ∷ option_rule (codes "ahead") ∷ option_rule (codes "chunks") ∷ further_rule (codes "until") ∷ option_rule (codes "only") ∷ option_rule (codes "checkpoint") ∷ needed_rule (codes "save-to")
       ∷ operand_rule (codes "workflow") ∷ operands_rule (codes "feed") ∷ [];
-  meaning = λ given. if gives_streams (codes "only") given then option_map (λ portions. asks_follow (follow_given given portions)) (portions_given given) else None;
+  meaning = λ given. if gives_streams (codes "only") given then (if gives_untils (codes "until") given then option_map (λ portions. asks_follow (follow_given given portions)) (portions_given given) else None) else None;
 }
 
 -- what is given to the arguments of `vdiff`
@@ -273,28 +307,29 @@ vdiff_given given first = record {
   report_form = report_form_given given;
   readable = is_given (codes "text") given;
   sql = first_of (codes "sql") given;
+  telling = telling_given given;
   workflow = text_given (codes "workflow") given;
   source = text_given (codes "source") given;
   target = text_given (codes "target") given;
 }
 
--- `vdiff [--tables] [--first N] [--json] [--text] [--sql TEXT] WORKFLOW SOURCE TARGET`
+-- `vdiff [--tables] [--first N] [--json] [--text] [--sql TEXT] [--progress] [--quiet] WORKFLOW SOURCE TARGET`
 abbrev pub vdiff_subcommand : Subcommand
 vdiff_subcommand = record {
   name = codes "vdiff";
-  rules = flag_rule (codes "tables") ∷ option_rule (codes "first") ∷ flag_rule (codes "json") ∷ flag_rule (codes "text") ∷ option_rule (codes "sql") ∷ operand_rule (codes "workflow") ∷ operand_rule (codes "source") ∷ operand_rule (codes "target") ∷ [];
+  rules = flag_rule (codes "tables") ∷ option_rule (codes "first") ∷ flag_rule (codes "json") ∷ flag_rule (codes "text") ∷ option_rule (codes "sql") ∷ flag_rule (codes "progress") ∷ flag_rule (codes "quiet") ∷ operand_rule (codes "workflow") ∷ operand_rule (codes "source") ∷ operand_rule (codes "target") ∷ [];
   meaning = λ given. option_map (λ first. asks_vdiff (vdiff_given given first)) (count_given (codes "first") given);
 }
 
 -- what is given to the arguments of `check`
 abbrev pub check_given : List Row → CheckValue
-check_given given = record { report_form = report_form_given given; strict = is_given (codes "strict") given; step = step_given given }
+check_given given = record { report_form = report_form_given given; strict = is_given (codes "strict") given; telling = telling_given given; step = step_given given }
 
--- `check [--hex] [--json] [--strict] WORKFLOW FEED..`
+-- `check [--hex] [--json] [--strict] [--progress] [--quiet] WORKFLOW FEED..`
 abbrev pub check_subcommand : Subcommand
 check_subcommand = record {
   name = codes "check";
-  rules = flag_rule (codes "hex") ∷ flag_rule (codes "json") ∷ flag_rule (codes "strict") ∷ operand_rule (codes "workflow") ∷ operands_rule (codes "feed") ∷ [];
+  rules = flag_rule (codes "hex") ∷ flag_rule (codes "json") ∷ flag_rule (codes "strict") ∷ flag_rule (codes "progress") ∷ flag_rule (codes "quiet") ∷ operand_rule (codes "workflow") ∷ operands_rule (codes "feed") ∷ [];
   meaning = λ given. Some (asks_check (check_given given));
 }
 
@@ -331,16 +366,47 @@ compact_given given stream = record {
   at = first_of (codes "at") given;
   checkpoints = texts_given (codes "checkpoint") given;
   drop_unknown = is_given (codes "drop-unknown") given;
+  telling = telling_given given;
   workflow = text_given (codes "workflow") given;
   feed = text_given (codes "feed") given;
 }
 
--- `compact [--hex] [--save-to TEXT] [--stream S] [--at TEXT] [--checkpoint TEXT].. [--drop-unknown] WORKFLOW FEED`
+-- `compact [--hex] [--save-to TEXT] [--stream S] [--at TEXT] [--checkpoint TEXT].. [--drop-unknown] [--progress] [--quiet] WORKFLOW FEED`
 abbrev pub compact_subcommand : Subcommand
 compact_subcommand = record {
   name = codes "compact";
-  rules = flag_rule (codes "hex") ∷ option_rule (codes "save-to") ∷ option_rule (codes "stream") ∷ option_rule (codes "at") ∷ further_rule (codes "checkpoint") ∷ flag_rule (codes "drop-unknown") ∷ operand_rule (codes "workflow") ∷ operand_rule (codes "feed") ∷ [];
+  rules = flag_rule (codes "hex") ∷ option_rule (codes "save-to") ∷ option_rule (codes "stream") ∷ option_rule (codes "at") ∷ further_rule (codes "checkpoint") ∷ flag_rule (codes "drop-unknown") ∷ flag_rule (codes "progress") ∷ flag_rule (codes "quiet") ∷ operand_rule (codes "workflow") ∷ operand_rule (codes "feed") ∷ [];
   meaning = λ given. option_map (λ stream. asks_compact (compact_given given stream)) (stream_given (codes "stream") given);
+}
+
+-- what is given to the arguments of `transcribe`
+abbrev pub transcribe_given : List Row → TranscribeValue
+transcribe_given given = record {
+  save_to = first_of (codes "save-to") given;
+  shard = text_given (codes "shard") given;
+  schema = first_of (codes "schema") given;
+  workflow = text_given (codes "workflow") given;
+  logs = texts_given (codes "log") given;
+}
+
+-- `transcribe [--save-to TEXT] --shard TEXT [--schema TEXT] WORKFLOW LOG..`
+abbrev pub transcribe_subcommand : Subcommand
+transcribe_subcommand = record {
+  name = codes "transcribe";
+  rules = option_rule (codes "save-to") ∷ needed_rule (codes "shard") ∷ option_rule (codes "schema") ∷ operand_rule (codes "workflow") ∷ operands_rule (codes "log") ∷ [];
+  meaning = λ given. Some (asks_transcribe (transcribe_given given));
+}
+
+-- what is given to the arguments of `feed`
+abbrev pub feed_given : List Row → ℕ → FeedValue
+feed_given given stream = record { stream = stream; workflow = first_of (codes "workflow") given }
+
+-- `feed [--stream S] [WORKFLOW]`
+abbrev pub feed_subcommand : Subcommand
+feed_subcommand = record {
+  name = codes "feed";
+  rules = option_rule (codes "stream") ∷ optional_rule (codes "workflow") ∷ [];
+  meaning = λ given. option_map (λ stream. asks_feed (feed_given given stream)) (stream_given (codes "stream") given);
 }
 
 -- `explain [NUMBER]`
@@ -353,7 +419,7 @@ explain_subcommand = record {
 
 -- the subcommands, in the order of the help
 abbrev pub subcommands : List Subcommand
-subcommands = show_subcommand ∷ step_subcommand ∷ run_subcommand ∷ vdiff_subcommand ∷ save_subcommand ∷ resume_subcommand ∷ join_subcommand ∷ follow_subcommand ∷ check_subcommand ∷ tiles_subcommand ∷ status_subcommand ∷ compact_subcommand ∷ explain_subcommand ∷ []
+subcommands = show_subcommand ∷ step_subcommand ∷ run_subcommand ∷ vdiff_subcommand ∷ save_subcommand ∷ resume_subcommand ∷ join_subcommand ∷ follow_subcommand ∷ check_subcommand ∷ tiles_subcommand ∷ status_subcommand ∷ compact_subcommand ∷ transcribe_subcommand ∷ feed_subcommand ∷ explain_subcommand ∷ []
 
 -- a subcommand as `clap` sees it
 abbrev pub shape_of_subcommand : Subcommand → Shape

@@ -1,10 +1,11 @@
-//! What the flags of a subcommand choose: each flag that stands for one of two ways is read here, and nowhere else.
+//! What the flags of a subcommand choose: each flag that stands for one of several ways is read here, and nowhere else.
 
 ghost use Rattle.std.specs.Prelude.{◌≡◌};
 ghost use Rattle.clap.specs.Words.{found_of, rows_of};
-ghost use Rattle.vrepl_words.specs.Choices.{feed_form_given, report_form_given, threading_given};
+ghost use Rattle.vrepl_words.specs.Choices.{feed_form_given, report_form_given, telling_given, threading_given};
 
 use crate::given::has_flag;
+use crate::words::Telling;
 use clap::ArgMatches;
 use vrepl_choices::{FeedForm, ReportForm, Threading};
 
@@ -38,5 +39,18 @@ pub(crate) fn report_form_given(given: &ArgMatches<'_>) -> ReportForm
         ReportForm::Json
     } else {
         ReportForm::Lines
+    }
+}
+
+/// Whether a command tells how far it is: never with `--quiet`, always with `--progress`.
+pub(crate) fn telling_given(given: &ArgMatches<'_>) -> Telling
+    ensures { result ≡ telling_given (rows_of (found_of given.now)) }
+{
+    if has_flag(given, "quiet") {
+        Telling::Never
+    } else if has_flag(given, "progress") {
+        Telling::Always
+    } else {
+        Telling::OnTerminal
     }
 }

@@ -4,7 +4,7 @@ ghost use Rattle.std.specs.Prelude.{IfOk, codes};
 ghost use Rattle.clap.specs.Words.{App, Rule, new_app, with_rule, with_subcommand};
 ghost use Rattle.vrepl_words.specs.Arguments.{flag_rule, further_rule, needed_rule, operand_rule, operands_rule, option_rule, optional_rule};
 ghost use Rattle.vrepl_words.specs.Built.{HasApp, HasRule, IsSubcommand, bare_app};
-ghost use Rattle.vrepl_words.specs.Words.{check_subcommand, explain_subcommand, follow_subcommand, join_subcommand, program_app, resume_subcommand, run_subcommand, save_subcommand, show_subcommand, status_subcommand, step_subcommand, tiles_subcommand, vdiff_subcommand, compact_subcommand};
+ghost use Rattle.vrepl_words.specs.Words.{check_subcommand, explain_subcommand, follow_subcommand, join_subcommand, program_app, resume_subcommand, run_subcommand, save_subcommand, show_subcommand, status_subcommand, step_subcommand, tiles_subcommand, vdiff_subcommand, compact_subcommand, transcribe_subcommand, feed_subcommand};
 
 use crate::help;
 use clap::{Arg, ArgAction, Command};
@@ -27,6 +27,8 @@ pub(crate) fn program<'w>(alloc: Global) -> Result<Command<'w>, AllocError>
     let command = with_subcommand(command, tiles_command(alloc));
     let command = with_subcommand(command, status_command(alloc));
     let command = with_subcommand(command, compact_command(alloc));
+    let command = with_subcommand(command, transcribe_command(alloc));
+    let command = with_subcommand(command, feed_command(alloc));
     with_subcommand(command, explain_command(alloc))
 }
 
@@ -87,7 +89,6 @@ pub(crate) fn run_command<'w>(alloc: Global) -> Result<Command<'w>, AllocError>
     ensures { IfOk result (IsSubcommand run_subcommand) }
 {
     let alone_help = "Runs the streams one after another, without threads";
-    let progress_help = "Tells each second how far streams in threads are";
     let rows_help = "Rows that are copied at a time, 1000 unless given";
     let ahead_help = "Groups read before a snapshot, 100 unless given";
     let chunks_help = "Chunks that are copied of a snapshot, 4 unless given";
@@ -95,22 +96,22 @@ pub(crate) fn run_command<'w>(alloc: Global) -> Result<Command<'w>, AllocError>
     let command = Ok(bare(alloc, "run", about, help::RUN));
     let command = with_arg(command, hex(alloc));
     let command = with_arg(command, flag(alloc, "alone", alone_help));
-    let command = with_arg(command, flag(alloc, "progress", progress_help));
+    let command = with_telling(alloc, command);
     let command = with_arg(command, option(alloc, "rows", "N", rows_help));
     let command = with_arg(command, option(alloc, "ahead", "N", ahead_help));
-    with_streams(
-        alloc,
-        with_arg(command, option(alloc, "chunks", "N", chunks_help)),
-    )
+    let command = with_arg(command, option(alloc, "chunks", "N", chunks_help));
+    with_streams(alloc, with_arg(command, until(alloc)))
 }
 
 fn save_command<'w>(alloc: Global) -> Result<Command<'w>, AllocError>
     ensures { IfOk result (IsSubcommand save_subcommand) }
 {
     let about = "Writes the checkpoint of the board behind a script";
+    let strict_help = "Ends with status 1 where a step was refused";
     let command = Ok(bare(alloc, "save", about, help::SAVE));
     let command = with_arg(command, hex(alloc));
-    with_streams(alloc, with_arg(command, save_to(alloc)))
+    let command = with_arg(command, save_to(alloc));
+    with_streams(alloc, with_arg(command, flag(alloc, "strict", strict_help)))
 }
 
 fn resume_command<'w>(alloc: Global) -> Result<Command<'w>, AllocError>
@@ -120,7 +121,8 @@ fn resume_command<'w>(alloc: Global) -> Result<Command<'w>, AllocError>
     let command = Ok(bare(alloc, "resume", about, help::RESUME));
     let command = with_arg(command, hex(alloc));
     let checkpoint = needed(alloc, "checkpoint", "FILE", "The checkpoint's file");
-    with_streams(alloc, with_arg(command, checkpoint))
+    let command = with_arg(command, checkpoint);
+    with_streams(alloc, with_telling(alloc, command))
 }
 
 fn join_command<'w>(alloc: Global) -> Result<Command<'w>, AllocError>
@@ -133,6 +135,7 @@ fn join_command<'w>(alloc: Global) -> Result<Command<'w>, AllocError>
     let command = with_arg(command, hex(alloc));
     let command = with_arg(command, further(alloc, "also", "FILE", also_help));
     let command = with_arg(command, save_to(alloc));
+    let command = with_telling(alloc, command);
     let command = with_arg(command, workflow(alloc));
     let one = operand(alloc, "one", "A", "The one checkpoint's file");
     let command = with_arg(command, one);
@@ -150,7 +153,8 @@ fn check_command<'w>(alloc: Global) -> Result<Command<'w>, AllocError>
     let command = Ok(bare(alloc, "check", about, help::CHECK));
     let command = with_arg(command, hex(alloc));
     let command = with_arg(command, flag(alloc, "json", json_help));
-    with_streams(alloc, with_arg(command, flag(alloc, "strict", strict_help)))
+    let command = with_arg(command, flag(alloc, "strict", strict_help));
+    with_streams(alloc, with_telling(alloc, command))
 }
 
 fn tiles_command<'w>(alloc: Global) -> Result<Command<'w>, AllocError>
@@ -199,8 +203,39 @@ pub(crate) fn compact_command<'w>(alloc: Global) -> Result<Command<'w>, AllocErr
         further(alloc, "checkpoint", "FILE", checkpoint_help),
     );
     let command = with_arg(command, flag(alloc, "drop-unknown", unknown_help));
+    let command = with_telling(alloc, command);
     let command = with_arg(command, workflow(alloc));
     with_arg(command, operand(alloc, "feed", "FEED", feed_help))
+}
+
+fn transcribe_command<'w>(alloc: Global) -> Result<Command<'w>, AllocError>
+    ensures { IfOk result (IsSubcommand transcribe_subcommand) }
+{
+    let about = "Makes the feed of a stream of a server's binary logs";
+    let save_help = "The feed's file; standard output unless given";
+    let shard_help = "The shard of the stream whose feed it is";
+    let schema_help = "The tables' schema there, the keyspace's name unless given";
+    let logs_help = "The files of the logs, in their order";
+    let command = Ok(bare(alloc, "transcribe", about, help::TRANSCRIBE));
+    let command = with_arg(command, option(alloc, "save-to", "NEW", save_help));
+    let command = with_arg(command, needed(alloc, "shard", "S", shard_help));
+    let command = with_arg(command, option(alloc, "schema", "NAME", schema_help));
+    let command = with_arg(command, workflow(alloc));
+    with_arg(command, operands(alloc, "log", "LOG", logs_help))
+}
+
+pub(crate) fn feed_command<'w>(alloc: Global) -> Result<Command<'w>, AllocError>
+    ensures { IfOk result (IsSubcommand feed_subcommand) }
+{
+    let about = "Writes the feed of which show prints a text";
+    let stream_help = "The stream whose feed it is, 0 unless given";
+    let workflow_help = "The workflow's file; no keyspace and shard without it";
+    let command = Ok(bare(alloc, "feed", about, help::FEED));
+    let command = with_arg(command, option(alloc, "stream", "S", stream_help));
+    with_arg(
+        command,
+        optional(alloc, "workflow", "WORKFLOW", workflow_help),
+    )
 }
 
 pub(crate) fn vdiff_command<'w>(alloc: Global) -> Result<Command<'w>, AllocError>
@@ -220,6 +255,7 @@ pub(crate) fn vdiff_command<'w>(alloc: Global) -> Result<Command<'w>, AllocError
     let command = with_arg(command, flag(alloc, "json", json_help));
     let command = with_arg(command, flag(alloc, "text", text_help));
     let command = with_arg(command, option(alloc, "sql", "SCHEMA", sql_help));
+    let command = with_telling(alloc, command);
     let command = with_arg(command, workflow(alloc));
     let source = operand(alloc, "source", "SOURCE", source_help);
     let command = with_arg(command, source);
@@ -230,7 +266,6 @@ pub(crate) fn follow_command<'w>(alloc: Global) -> Result<Command<'w>, AllocErro
     ensures { IfOk result (IsSubcommand follow_subcommand) }
 {
     let alone_help = "Runs the streams one after another, without threads";
-    let progress_help = "Tells each second how far streams in threads are";
     let dump_help = "Prints the target's rows too, as `run` does";
     let rows_help = "Rows that are copied at a time, 1000 unless given";
     let ahead_help = "Groups read before a snapshot, 100 unless given";
@@ -242,11 +277,12 @@ pub(crate) fn follow_command<'w>(alloc: Global) -> Result<Command<'w>, AllocErro
     let command = Ok(bare(alloc, "follow", about, help::FOLLOW));
     let command = with_arg(command, hex(alloc));
     let command = with_arg(command, flag(alloc, "alone", alone_help));
-    let command = with_arg(command, flag(alloc, "progress", progress_help));
+    let command = with_telling(alloc, command);
     let command = with_arg(command, flag(alloc, "dump", dump_help));
     let command = with_arg(command, option(alloc, "rows", "N", rows_help));
     let command = with_arg(command, option(alloc, "ahead", "N", ahead_help));
     let command = with_arg(command, option(alloc, "chunks", "N", chunks_help));
+    let command = with_arg(command, until(alloc));
     let command = with_arg(command, option(alloc, "only", "S,..", only_help));
     let command = with_arg(
         command,
@@ -297,6 +333,19 @@ fn with_streams<'w>(
     with_arg(command, operands(alloc, "feed", "FEED", feed_help))
 }
 
+/// The command with the flags that say whether it tells how far it is, unless memory ran out.
+fn with_telling<'w>(
+    alloc: Global,
+    command: Result<Command<'w>, AllocError>,
+) -> Result<Command<'w>, AllocError>
+    ensures { (app : App) → IfOk command.entry (HasApp app) → IfOk result (HasApp (with_rule (with_rule app (flag_rule (codes "progress"))) (flag_rule (codes "quiet")))) }
+{
+    let progress_help = "Tells how far it is, also into a file";
+    let quiet_help = "Tells nothing of that, also on a terminal";
+    let command = with_arg(command, flag(alloc, "progress", progress_help));
+    with_arg(command, flag(alloc, "quiet", quiet_help))
+}
+
 /// Whether feeds are hexadecimal text.
 fn hex<'w>(alloc: Global) -> Arg<'w>
     ensures { HasRule (flag_rule (codes "hex")) result }
@@ -310,6 +359,14 @@ fn save_to<'w>(alloc: Global) -> Arg<'w>
 {
     let help = "The checkpoint's file; standard output unless given";
     option(alloc, "save-to", "FILE", help)
+}
+
+/// A position up to which feeds are read, which may be there several times.
+fn until<'w>(alloc: Global) -> Arg<'w>
+    ensures { HasRule (further_rule (codes "until")) result }
+{
+    let help = "Reads feeds up to it, as S=POSITION stream S's alone";
+    further(alloc, "until", "POSITION", help)
 }
 
 /// The workflow's file.

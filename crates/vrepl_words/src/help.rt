@@ -63,6 +63,10 @@ Example:
   x3131\tx6b
   x3132\tx6c
 
+With --until POSITION of each feed the groups that lie within POSITION are run,
+and no more: rows as they stood there. A feed that doesn't reach it is refused.
+--until S=POSITION is for stream S alone; the last that is for a stream counts.
+
 Status:
   0  all rows were printed
   1  refused; `vrepl explain NUMBER` says what the line's number means
@@ -74,13 +78,15 @@ Example:
   $ vrepl save --hex examples/workflows/one_shard.json examples/one_insert.hex \\
       --save-to one_row.checkpoint < examples/copy_one.script
 
-The script comes on standard input. The replies to it aren't printed. The file
-is replaced once the checkpoint is whole; with `> FILE` in place of --save-to it
-is empty before a refusal is known.
+The script comes on standard input. The replies to it aren't printed; where
+steps were refused a line on standard error says how many. The file is replaced
+once the checkpoint is whole; with `> FILE` in place of --save-to it is empty
+before a refusal is known.
 
 Status:
   0  the whole checkpoint was written
-  1  refused; `vrepl explain NUMBER` says what the line's number means
+  1  refused; `vrepl explain NUMBER` says what the line's number means; or with
+     --strict a step was refused, and the whole checkpoint was written
   2  a fault of usage";
 
 /// A call of `resume` and what it prints.
@@ -130,7 +136,11 @@ Example:
       examples/two_shards/lower.hex examples/two_shards/upper.hex
 
 The file is replaced once the new checkpoint is whole, and never in part. The
-streams that --only leaves out stay as the checkpoint has them.
+streams that --only leaves out stay as the checkpoint has them. With --until
+POSITION of each feed the groups that lie within POSITION are run, and no more;
+--until S=POSITION is for stream S alone. On a terminal a line tells meanwhile
+how far the streams are, and at the end one where they stand, on standard
+error; with --progress also into a file.
 
 Status:
   0  the new checkpoint stands in the file
@@ -223,6 +233,42 @@ that are to go on by --checkpoint, and keep the old feed for others.
 
 Status:
   0  the new feed was written
+  1  refused; `vrepl explain NUMBER` says what the line's number means
+  2  a fault of usage";
+
+/// A call of `transcribe` and what it tells.
+pub(crate) const TRANSCRIBE: &str = "\
+Example:
+  $ vrepl transcribe --save-to log.feed --shard=-80 \\
+      examples/workflows/one_shard.json \\
+      examples/logs/binlog.000001 examples/logs/binlog.000002
+
+Reads the binary logs of a server as files, from the first one on, in row
+format with full images. The feed has each committed transaction that changes
+the workflow's tables. The file is replaced once the feed is whole; without
+--save-to it is printed. A line of a refusal names the file, the byte in it and
+the table.
+
+Status:
+  0  the feed was written
+  1  refused; `vrepl explain NUMBER` says what the line's number means
+  2  a fault of usage";
+
+/// A call of `feed` and what becomes of it.
+pub(crate) const FEED: &str = "\
+Example:
+  $ vrepl feed examples/workflows/one_shard.json < my.txt > my.feed
+  $ vrepl show --keyspace ks --shard=-80 my.feed | diff - my.txt
+
+The text is on standard input, each line of it as `show` prints it: a group with
+its number and position, then its rows behind a - or a +.
+The feed is printed, or where a line isn't as `show` prints it, a refusal that
+names the line and the byte of it. A - and behind it a + of one table are an
+update. With a workflow the feed has its keyspace, the stream's shard and the
+columns of its tables; of any other table a column has its place as its name.
+
+Status:
+  0  the feed was printed
   1  refused; `vrepl explain NUMBER` says what the line's number means
   2  a fault of usage";
 

@@ -9,6 +9,7 @@ mod numbers;
 pub mod portions;
 pub mod reading;
 mod streams;
+mod untils;
 pub mod usage;
 pub mod words;
 

@@ -4,12 +4,13 @@ ghost use Rattle.std.specs.Prelude.{◌≡◌, IfOk, Some, option_map};
 ghost use Rattle.clap.specs.Words.{found_of, kind_of, rows_of};
 ghost use Rattle.clap.specs.declared.error.kind.ErrorKind.TheVariants.{ValueValidation};
 ghost use Rattle.vrepl_words.specs.Arguments.{count_given, portion_of, refusal_given, explained_number};
-ghost use Rattle.vrepl_words.specs.Words.{bad_follow, bad_portion};
+ghost use Rattle.vrepl_words.specs.Words.{bad_follow, bad_portion, bad_run};
 
 use crate::commands::{
-    compact_command, explain_command, follow_command, run_command, vdiff_command,
+    compact_command, explain_command, feed_command, follow_command, run_command, vdiff_command,
 };
 use crate::given::{given_portions, portion, portion_of};
+use crate::streams::gives_streams;
 use clap::error::ErrorKind;
 use clap::{ArgMatches, Command, Error};
 use refusal_words::texts::has_text;
@@ -25,6 +26,9 @@ const CHUNKS: &str = "--chunks is a number of 1 to 1000000";
 
 /// What is told of streams that are none.
 const ONLY: &str = "--only is numbers of 0 to 63 with commas between them";
+
+/// What is told of a position of `--until` whose stream is none.
+const UNTIL: &str = "--until is a position, or S=POSITION with S a number of 0 to 63";
 
 /// What is told of a stream that is none.
 const STREAM: &str = "--stream is a number of 0 to 63";
@@ -80,11 +84,12 @@ pub(crate) fn bad_number(alloc: Global, matches: &ArgMatches<'_>) -> Result<Erro
     ensures { IfOk result (λ fault. kind_of fault ≡ ValueValidation) }
 {
     match matches.subcommand() {
-        Some(("run", given)) => usage_fault(run_command(alloc), "vrepl run", bad_portion(given)),
+        Some(("run", given)) => usage_fault(run_command(alloc), "vrepl run", bad_run(given)),
         Some(("follow", given)) => {
             usage_fault(follow_command(alloc), "vrepl follow", bad_follow(given))
         }
         Some(("compact", _)) => usage_fault(compact_command(alloc), "vrepl compact", STREAM),
+        Some(("feed", _)) => usage_fault(feed_command(alloc), "vrepl feed", STREAM),
         Some(("vdiff", _)) => usage_fault(vdiff_command(alloc), "vrepl vdiff", FIRST),
         _ => usage_fault(explain_command(alloc), "vrepl explain", NO_REFUSAL),
     }
@@ -102,11 +107,24 @@ fn usage_fault(
     command.error(ErrorKind::ValueValidation, message)
 }
 
+/// What is told of the first number of `run` that is none.
+fn bad_run(given: &ArgMatches<'_>) -> &'static str
+    ensures { result.now ≡ bad_run (rows_of (found_of given.now)) }
+{
+    if given_portions(given).is_some() {
+        UNTIL
+    } else {
+        bad_portion(given)
+    }
+}
+
 /// What is told of the first number of `follow` that is none.
 fn bad_follow(given: &ArgMatches<'_>) -> &'static str
     ensures { result.now ≡ bad_follow (rows_of (found_of given.now)) }
 {
-    if given_portions(given).is_some() {
+    if gives_streams(given, "only") {
+        bad_run(given)
+    } else if given_portions(given).is_some() {
         ONLY
     } else {
         bad_portion(given)

@@ -3,17 +3,19 @@
 ghost use Rattle.std.specs.Prelude.{◌≡◌, ◌≢◌, [], IfOk, Some, map, string_bytes};
 ghost use Rattle.clap.specs.Words.{FailsBy, found_of, rows_of, subcommand_rows_of};
 ghost use Rattle.vrepl_words.specs.Built.{HasApp};
-ghost use Rattle.vrepl_words.specs.Meant.{Asks, follow_value, portions_value, run_value, show_value, step_value, value_of_words, vdiff_value, compact_value};
-ghost use Rattle.vrepl_words.specs.Words.{asked_by, asks_check, asks_join, asks_follow, asks_resume, asks_run, asks_save, asks_status, asks_step, asks_tiles, check_given, explain_subcommand, faults_of, follow_given, follow_subcommand, join_given, program_app, resume_given, run_given, run_subcommand, save_given, show_given, status_given, step_given, tiles_given, vdiff_given, vdiff_subcommand, words_of, asks_compact, compact_given, compact_subcommand};
+ghost use Rattle.vrepl_words.specs.Meant.{Asks, follow_value, portions_value, run_value, show_value, step_value, value_of_words, vdiff_value, compact_value, feed_value};
+ghost use Rattle.vrepl_words.specs.Words.{asked_by, asks_check, asks_join, asks_follow, asks_resume, asks_run, asks_save, asks_status, asks_step, asks_tiles, check_given, explain_subcommand, faults_of, follow_given, follow_subcommand, join_given, program_app, resume_given, run_given, run_subcommand, save_given, show_given, status_given, step_given, tiles_given, vdiff_given, vdiff_subcommand, words_of, asks_compact, compact_given, compact_subcommand, asks_transcribe, transcribe_given, feed_given, feed_subcommand};
 
-use crate::choices::{feed_form_given, report_form_given, threading_given};
+use crate::choices::{feed_form_given, report_form_given, telling_given, threading_given};
 use crate::commands::program;
 use crate::given::{given_portions, has_flag, text, text_if, texts};
 use crate::numbers::{bad_number, count_given, refusal_given};
 use crate::portions::Portions;
 use crate::streams::{gives_streams, stream_given, streams_given};
+use crate::untils::{gives_untils, untils_given};
 use crate::words::{
-    Check, Compact, Follow, Join, Resume, Run, Save, Show, Status, Step, Tiles, Vdiff, Words,
+    Check, Compact, Feed, Follow, Join, Resume, Run, Save, Show, Status, Step, Tiles, Transcribe,
+    Vdiff, Words,
 };
 use clap::{ArgMatches, Command, Error};
 use std::alloc::{AllocError, Global};
@@ -75,6 +77,8 @@ fn asked<'w>(alloc: Global, matches: &ArgMatches<'w>) -> Option<Result<Words<'w>
         "tiles" => Some(tiles_words(alloc, given)),
         "status" => Some(status_words(alloc, given)),
         "compact" => compact_words(alloc, given),
+        "transcribe" => Some(transcribe_words(alloc, given)),
+        "feed" => feed_words(given),
         "explain" => explain_words(given),
         _ => None,
     }
@@ -116,6 +120,7 @@ fn save_words<'w>(alloc: Global, given: &ArgMatches<'w>) -> Result<Words<'w>, Al
     let step = script_words(alloc, given)?;
     Ok(Words::Save(Save {
         save_to: text_if(given, "save-to"),
+        strict: has_flag(given, "strict"),
         step,
     }))
 }
@@ -127,6 +132,7 @@ fn check_words<'w>(alloc: Global, given: &ArgMatches<'w>) -> Result<Words<'w>, A
     Ok(Words::Check(Check {
         report_form: report_form_given(given),
         strict: has_flag(given, "strict"),
+        telling: telling_given(given),
         step,
     }))
 }
@@ -154,6 +160,7 @@ fn resume_words<'w>(alloc: Global, given: &ArgMatches<'w>) -> Result<Words<'w>, 
     let step = script_words(alloc, given)?;
     Ok(Words::Resume(Resume {
         checkpoint: text(given, "checkpoint"),
+        telling: telling_given(given),
         step,
     }))
 }
@@ -170,16 +177,21 @@ fn join_words<'w>(alloc: Global, given: &ArgMatches<'w>) -> Result<Words<'w>, Al
         other: text(given, "other"),
         more,
         save_to: text_if(given, "save-to"),
+        telling: telling_given(given),
         feeds,
     }))
 }
 
-/// None where a portion that was given is none.
+/// None where a portion that was given is none, or the stream of a position.
 fn run_words<'w>(alloc: Global, given: &ArgMatches<'w>) -> Option<Result<Words<'w>, AllocError>>
     ensures { Asks result (run_subcommand.meaning (rows_of (found_of given.now))) }
 {
     let portions = given_portions(given)?;
-    Some(run_words_by(alloc, given, portions))
+    if gives_untils(given, "until") {
+        Some(run_words_by(alloc, given, portions))
+    } else {
+        None
+    }
 }
 
 /// The same with these portions. An error is want of memory.
@@ -202,23 +214,25 @@ fn run_of<'w>(
 ) -> Result<Run<'w>, AllocError>
     ensures { IfOk result (λ run. run_value run ≡ run_given (rows_of (found_of given.now)) (portions_value portions)) }
 {
+    let until = untils_given(alloc, given, "until")?;
     let feeds = texts(alloc, given, "feed")?;
     Ok(Run {
         feed_form: feed_form_given(given),
         threading: threading_given(given),
-        progress: has_flag(given, "progress"),
+        telling: telling_given(given),
         portions,
+        until,
         workflow: text(given, "workflow"),
         feeds,
     })
 }
 
-/// None where a portion that was given is none, or a stream.
+/// None where a portion that was given is none, or a stream, or the stream of a position.
 fn follow_words<'w>(alloc: Global, given: &ArgMatches<'w>) -> Option<Result<Words<'w>, AllocError>>
     ensures { Asks result (follow_subcommand.meaning (rows_of (found_of given.now))) }
 {
     let portions = given_portions(given)?;
-    if gives_streams(given, "only") {
+    if gives_streams(given, "only") && gives_untils(given, "until") {
         Some(follow_words_by(alloc, given, portions))
     } else {
         None
@@ -287,8 +301,40 @@ fn compact_of<'w>(given: &ArgMatches<'w>, stream: u8, checkpoints: Vec<&'w str>)
         at: text_if(given, "at"),
         checkpoints,
         drop_unknown: has_flag(given, "drop-unknown"),
+        telling: telling_given(given),
         workflow: text(given, "workflow"),
         feed: text(given, "feed"),
+    }
+}
+
+fn transcribe_words<'w>(alloc: Global, given: &ArgMatches<'w>) -> Result<Words<'w>, AllocError>
+    ensures { IfOk result (λ words. value_of_words words ≡ asks_transcribe (transcribe_given (rows_of (found_of given.now)))) }
+{
+    let logs = texts(alloc, given, "log")?;
+    Ok(Words::Transcribe(Transcribe {
+        save_to: text_if(given, "save-to"),
+        shard: text(given, "shard"),
+        schema: text_if(given, "schema"),
+        workflow: text(given, "workflow"),
+        logs,
+    }))
+}
+
+/// None where the stream that was given is none.
+fn feed_words<'w>(given: &ArgMatches<'w>) -> Option<Result<Words<'w>, AllocError>>
+    ensures { Asks result (feed_subcommand.meaning (rows_of (found_of given.now))) }
+{
+    let stream = stream_given(given, "stream")?;
+    Some(Ok(Words::Feed(feed_of(given, stream))))
+}
+
+/// What is given to `feed`, of this stream.
+fn feed_of<'w>(given: &ArgMatches<'w>, stream: u8) -> Feed<'w>
+    ensures { feed_value result ≡ feed_given (rows_of (found_of given.now)) stream }
+{
+    Feed {
+        stream,
+        workflow: text_if(given, "workflow"),
     }
 }
 
@@ -318,6 +364,7 @@ fn vdiff_of<'w>(given: &ArgMatches<'w>, first: Option<u32>) -> Vdiff<'w>
         report_form: report_form_given(given),
         readable: has_flag(given, "text"),
         sql: text_if(given, "sql"),
+        telling: telling_given(given),
         workflow: text(given, "workflow"),
         source: text(given, "source"),
         target: text(given, "target"),

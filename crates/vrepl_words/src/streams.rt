@@ -1,4 +1,4 @@
-//! The streams that `follow` is told to run alone, and the one whose feed `compact` is given.
+//! The streams that `follow` is told to run alone, and the one whose feed `compact` is given or `feed` writes.
 
 ghost use Rattle.std.specs.Prelude.{◌≡◌, IfOk, is_some, option_map};
 ghost use Rattle.clap.specs.Words.{found_of, rows_of};
@@ -47,7 +47,7 @@ pub(crate) fn stream_given(given: &ArgMatches<'_>, name: &str) -> Option<u8>
 }
 
 /// The number of 0 to 63 that digits spell.
-fn stream_number_of(text: &[u8]) -> Option<u8>
+pub(crate) fn stream_number_of(text: &[u8]) -> Option<u8>
     ensures { result ≡ stream_number_of text.now }
 {
     let number = natural_of(text)?;

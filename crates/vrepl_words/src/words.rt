@@ -1,7 +1,7 @@
 //! What the words of the command line ask for.
 
 use crate::portions::Portions;
-use vrepl_choices::{FeedForm, ReportForm, Threading};
+use vrepl_choices::{FeedForm, ReportForm, Threading, Until};
 
 /// What the words ask for.
 #[derive(Drop)]
@@ -24,6 +24,10 @@ pub enum Words<'w> {
     Vdiff(Vdiff<'w>),
     /// `compact`: put one group in the place of a feed's first ones.
     Compact(Compact<'w>),
+    /// `transcribe`: make a feed of a server's binary logs.
+    Transcribe(Transcribe<'w>),
+    /// `feed`: write the feed of which `show` prints a text.
+    Feed(Feed<'w>),
     /// `check`: look for what can't be so in a workflow's feeds.
     Check(Check<'w>),
     /// `tiles`: say whether the targets of workflows share the ids of their sources.
@@ -34,6 +38,17 @@ pub enum Words<'w> {
     Explain(Option<u64>),
 }
 
+/// Whether a command tells on its way, on standard error, how far it is.
+#[derive(Clone, Copy, Debug, PartialEq, Eq)]
+pub enum Telling {
+    /// Where that is a terminal.
+    OnTerminal,
+    /// Wherever it goes.
+    Always,
+    /// Never.
+    Never,
+}
+
 /// The words of `run`.
 #[derive(Drop)]
 pub struct Run<'w> {
@@ -41,10 +56,12 @@ pub struct Run<'w> {
     pub feed_form: FeedForm,
     /// How the streams run.
     pub threading: Threading,
-    /// Whether it is told on the way how far streams in threads are.
-    pub progress: bool,
+    /// Whether it is told how far they are.
+    pub telling: Telling,
     /// In what portions a stream is run.
     pub portions: Portions,
+    /// Up to which positions the feeds are read.
+    pub until: Vec<Until<'w>>,
     /// The workflow's file.
     pub workflow: &'w str,
     /// The feeds' files, in the order of the streams.
@@ -71,6 +88,8 @@ pub struct Follow<'w> {
 pub struct Resume<'w> {
     /// The checkpoint's file.
     pub checkpoint: &'w str,
+    /// Whether it is told how far it is.
+    pub telling: Telling,
     /// The other words, which are those of `step`.
     pub step: Step<'w>,
 }
@@ -80,6 +99,8 @@ pub struct Resume<'w> {
 pub struct Save<'w> {
     /// The file that the checkpoint takes the place of; standard output unless given.
     pub save_to: Option<&'w str>,
+    /// Whether refused steps are as a refusal.
+    pub strict: bool,
     /// The other words, which are those of `step`.
     pub step: Step<'w>,
 }
@@ -91,6 +112,8 @@ pub struct Check<'w> {
     pub report_form: ReportForm,
     /// Whether notes are as warnings.
     pub strict: bool,
+    /// Whether it is told how far it is.
+    pub telling: Telling,
     /// The other words, which are those of `step`.
     pub step: Step<'w>,
 }
@@ -126,10 +149,36 @@ pub struct Compact<'w> {
     pub checkpoints: Vec<&'w str>,
     /// Whether rows of tables that the workflow lacks are left out.
     pub drop_unknown: bool,
+    /// Whether it is told how far it is.
+    pub telling: Telling,
     /// The workflow's file.
     pub workflow: &'w str,
     /// The feed's file.
     pub feed: &'w str,
+}
+
+/// The words of `transcribe`.
+#[derive(Drop)]
+pub struct Transcribe<'w> {
+    /// The file that the feed takes the place of; standard output unless given.
+    pub save_to: Option<&'w str>,
+    /// The shard of the stream whose feed it is.
+    pub shard: &'w str,
+    /// The schema that the logs have its tables in; the keyspace's name unless given.
+    pub schema: Option<&'w str>,
+    /// The workflow's file.
+    pub workflow: &'w str,
+    /// The logs' files, in their order.
+    pub logs: Vec<&'w str>,
+}
+
+/// The words of `feed`.
+#[derive(Drop)]
+pub struct Feed<'w> {
+    /// The stream whose feed it is, from 0, where there is a workflow.
+    pub stream: u8,
+    /// The workflow's file; none for a feed of the empty keyspace and shard.
+    pub workflow: Option<&'w str>,
 }
 
 /// The words of `join`.
@@ -147,6 +196,8 @@ pub struct Join<'w> {
     pub more: Vec<&'w str>,
     /// The file that the new checkpoint takes the place of; standard output unless given.
     pub save_to: Option<&'w str>,
+    /// Whether it is told how far it is.
+    pub telling: Telling,
     /// The feeds' files, in the order of the streams.
     pub feeds: Vec<&'w str>,
 }
@@ -177,6 +228,8 @@ pub struct Vdiff<'w> {
     pub readable: bool,
     /// The schema whose rows the printed statements make the source's, if one is given.
     pub sql: Option<&'w str>,
+    /// Whether it is told how far it is.
+    pub telling: Telling,
     /// The file of the source's dump, or `-` for standard input.
     pub source: &'w str,
     /// The file of the target's dump, or `-` for standard input, unless that is the source's.

@@ -32,7 +32,7 @@ returns-in-Run-clause-ends g c =
     (sym c.in-Run.is) c.run.ensures.ends
 
 pub returns-in-Save-clause-status : goal.returns-in-Save-clause-status
-returns-in-Save-clause-status g c = ends_within c.save.result c.save.ensures.ends
+returns-in-Save-clause-status g c = inl c.save.ensures.status
 
 pub returns-in-Save-clause-ends : goal.returns-in-Save-clause-ends
 returns-in-Save-clause-ends g c =
@@ -86,6 +86,14 @@ pub returns-in-Status-clause-ends : goal.returns-in-Status-clause-ends
 returns-in-Status-clause-ends g c =
     subst (λ (a : Asked). AnswerEnds a c.state.result (g.W.Out.written c.args.out.now) (g.W.Out.written c.state.new.out) (g.E.Out.written c.args.err.now) (g.E.Out.written c.state.new.err))
     (sym c.in-Status.is) c.state.ensures.ends
+
+pub returns-in-Feed-clause-status : goal.returns-in-Feed-clause-status
+returns-in-Feed-clause-status g c = ends_within c.feed.result c.feed.ensures.ends
+
+pub returns-in-Feed-clause-ends : goal.returns-in-Feed-clause-ends
+returns-in-Feed-clause-ends g c =
+    subst (λ (a : Asked). AnswerEnds a c.feed.result (g.W.Out.written c.args.out.now) (g.W.Out.written c.feed.new.out) (g.E.Out.written c.args.err.now) (g.E.Out.written c.feed.new.err))
+    (sym c.in-Feed.is) c.feed.ensures.ends
 
 pub returns-in-Compact-clause-status : goal.returns-in-Compact-clause-status
 returns-in-Compact-clause-status g c = ends_within c.compact.result c.compact.ensures.ends

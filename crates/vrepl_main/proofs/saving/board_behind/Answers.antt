@@ -7,7 +7,7 @@ use Rattle.vrepl_main.proofs.saving.board_behind.Goals as goal
 
 pub returns-clause-taken : goal.returns-clause-taken
 returns-clause-taken c =
-    subst (λ (f : Fed). IsBehind f.feeds f.board c.args.steps.now c.take_quietly.new.fed.board) c.in_ok-fed.ensures.fresh c.in_ok-take_quietly.ensures.behind
+    subst (λ (f : Fed). IsBehind f.feeds f.board c.args.steps.now c.in_ok-refused.refused c.take_quietly.new.fed.board) c.in_ok-fed.ensures.fresh c.in_ok-refused.ensures.behind
 
 pub returns-clause-sources : goal.returns-clause-sources
 returns-clause-sources c =

@@ -5,4 +5,4 @@ pub open_scripted-requires : goal.open_scripted-requires
 open_scripted-requires c = rw c.deref-2.ensures.value (rw c.deref.ensures.value at c.in_ok-given.ensures)
 
 pub returns-clause-saved : goal.returns-clause-saved
-returns-clause-saved c = saved_as _ _ c.in_ok-bytes.bytes.items c.in_ok-scripted.ensures.scripted c.in_ok-bytes.ensures
+returns-clause-saved c = saved_as _ _ c.in_ok-saved.saved c.in_ok-scripted.ensures.scripted (c.in_ok-saved.ensures.behind, c.in_ok-saved.ensures.steps)

@@ -1,6 +1,6 @@
 use Rattle.std.proofs.Common.{[]}
 use Rattle.vrepl_main.specs.Adding.{at}
-use Rattle.vrepl_main.specs.Shown.{shown}
+use Rattle.feed_text.specs.Shown.{shown}
 use Rattle.vrepl_main.proofs.AddLaws.{then_finishes}
 use Rattle.vrepl_main.proofs.showing.print_whole.Goals as goal
 

@@ -1,5 +1,5 @@
 use Rattle.std.specs.Prelude.{codes}
-use Rattle.vrepl_main.specs.Shown.{shown_row_lines}
+use Rattle.feed_text.specs.Shown.{shown_row_lines}
 use Rattle.std.proofs.lemmas.Result.{err_from_is_err_and}
 use Rattle.vrepl_main.proofs.AddLaws.{first_stops, then_prints}
 use Rattle.vrepl_main.proofs.shown.print_change.Goals as goal

@@ -1,7 +1,7 @@
 use Rattle.std.proofs.Common.{ap, ◌∙◌}
 use Rattle.std.proofs.lemmas.List.Concat.{flat_map-cons}
 use Rattle.std.proofs.lemmas.Result.{err_from_is_err_and}
-use Rattle.vrepl_main.specs.Shown.{change_text, changes_text}
+use Rattle.feed_text.specs.Shown.{change_text, changes_text}
 use Rattle.vrepl_main.proofs.AddLaws.{moves, stops, ends}
 use Rattle.vrepl_main.proofs.shown.print_changes.Goals as goal
 

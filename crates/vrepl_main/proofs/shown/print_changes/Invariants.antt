@@ -1,5 +1,5 @@
 use Rattle.vrepl_main.specs.Adding.{at, IsPutUpTo}
-use Rattle.vrepl_main.specs.Shown.{changes_text}
+use Rattle.feed_text.specs.Shown.{changes_text}
 use Rattle.vrepl_main.proofs.shown.print_changes.Given as goal
 
 -- what is printed and what is left are the whole

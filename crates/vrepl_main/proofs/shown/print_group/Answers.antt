@@ -1,4 +1,4 @@
-use Rattle.vrepl_main.specs.Shown.{group_line, changes_text}
+use Rattle.feed_text.specs.Shown.{group_line, changes_text}
 use Rattle.std.proofs.lemmas.Result.{err_from_is_err_and}
 use Rattle.vrepl_main.proofs.AddLaws.{first_stops, then_prints}
 use Rattle.vrepl_main.proofs.shown.print_group.Goals as goal

@@ -1,5 +1,5 @@
 use Rattle.vrepl_main.specs.Adding.{at, IsPutUpTo}
-use Rattle.vrepl_main.specs.Shown.{shown}
+use Rattle.feed_text.specs.Shown.{shown}
 use Rattle.vrepl_main.proofs.shown.print_groups.Given as goal
 
 -- what is printed and what is left are the whole

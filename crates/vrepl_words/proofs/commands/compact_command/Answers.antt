@@ -10,5 +10,6 @@ returns c =
     let at = c.with_arg-command-4.ensures _ _ stream c.option-3.ensures in
     let checkpoint = c.with_arg-command-5.ensures _ _ at c.further.ensures in
     let unknown = c.with_arg-command-6.ensures _ _ checkpoint c.flag.ensures in
-    let workflow = c.with_arg-command-7.ensures _ _ unknown c.workflow.ensures in
+    let telling = c.with_telling-command.ensures _ unknown in
+    let workflow = c.with_arg-command-7.ensures _ _ telling c.workflow.ensures in
     c.with_arg.ensures _ _ workflow c.operand.ensures

@@ -16,4 +16,6 @@ returns c =
     let tiles = c.with_subcommand-command-10.ensures _ _ check c.tiles_command.ensures in
     let status = c.with_subcommand-command-11.ensures _ _ tiles c.status_command.ensures in
     let compact = c.with_subcommand-command-12.ensures _ _ status c.compact_command.ensures in
-    c.with_subcommand.ensures _ _ compact c.explain_command.ensures
+    let transcribe = c.with_subcommand-command-13.ensures _ _ compact c.transcribe_command.ensures in
+    let feed = c.with_subcommand-command-14.ensures _ _ transcribe c.feed_command.ensures in
+    c.with_subcommand.ensures _ _ feed c.explain_command.ensures

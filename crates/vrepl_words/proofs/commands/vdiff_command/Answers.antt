@@ -9,6 +9,7 @@ returns c =
     let json = c.with_arg-command-3.ensures _ _ first c.flag-2.ensures in
     let text = c.with_arg-command-4.ensures _ _ json c.flag-3.ensures in
     let sql = c.with_arg-command-5.ensures _ _ text c.option-2.ensures in
-    let workflow = c.with_arg-command-6.ensures _ _ sql c.workflow.ensures in
+    let telling = c.with_telling-command.ensures _ sql in
+    let workflow = c.with_arg-command-6.ensures _ _ telling c.workflow.ensures in
     let source = c.with_arg-command-7.ensures _ _ workflow c.operand-source.ensures in
     c.with_arg.ensures _ _ source c.operand.ensures

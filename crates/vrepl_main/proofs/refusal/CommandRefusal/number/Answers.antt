@@ -28,5 +28,8 @@ returns-in-Workflow c = search rules
 pub returns-in-NoStream : goal.returns-in-NoStream
 returns-in-NoStream c = search rules
 
+pub returns-in-NotReached : goal.returns-in-NotReached
+returns-in-NotReached c = search rules
+
 pub returns-in-FeedCount : goal.returns-in-FeedCount
 returns-in-FeedCount c = search rules

@@ -1,0 +1,5 @@
+//! Tests of feeds of texts.
+#![tactic(auto)]
+
+#[cfg(test)]
+mod texts;

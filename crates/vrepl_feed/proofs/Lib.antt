@@ -1,0 +1,2 @@
+mod EndLaws
+pub mod ShowLaws

@@ -1,0 +1,145 @@
+-- The feed that `transcribe` makes of logs, or why there is none; and how the command ends (this profile).
+use Rattle.std.specs.Prelude.{◌≡◌, ◌⊎◌, ℕ, List, [], ◌∷◌, ◌++◌, codes, decimal, map, option_map, Option, None, Some, IfSome, Result, Ok, Err, slice_get}
+use Rattle.std.specs.Option.{option_map_or}
+use Rattle.outcome.specs.Outcome.{◌>>=◌}
+use Rattle.filter_rule.specs.Faults as plans
+use Rattle.filter_rule.specs.PlanTable.{TableValue, name_of_table}
+use Rattle.filter_rule.specs.PlanValue.{PlanValue}
+use Rattle.filter_rule.specs.Reading.{plans_of}
+use Rattle.log_feed.specs.Table as feed
+use Rattle.log_laws.specs.Source.{SourceTables}
+use Rattle.log_laws.specs.declared.fault.TellFault.TheVariants.{Change}
+use Rattle.log_transcribe.specs.Fault.{number_of, file_of}
+use Rattle.log_transcribe.specs.Feed.{IsFeedOfLogs}
+use Rattle.log_transcribe.specs.Transcript.{feed_of_logs}
+use Rattle.log_transcribe.specs.declared.fault.LogsFault.{LogsFault}
+use Rattle.log_transcribe.specs.declared.fault.LogsFault.TheVariants.{Tell}
+use Rattle.vdiff_core.specs.Printing.{Written, IsWritten, BreaksOff}
+use Rattle.vrepl_transcribe.specs.Source.{plan_of_shard, first_unplain, source_in}
+use Rattle.vrepl_transcribe.specs.declared.inputs.TranscribeInputs.{TranscribeInputs}
+use Rattle.vrepl_transcribe.specs.declared.transcribing.Untranscribed.{Untranscribed}
+use Rattle.vrepl_transcribe.specs.declared.transcribing.Untranscribed.TheVariants.{Memory, Workflow, NoStream, Line}
+use Rattle.vrepl_transcribe.specs.declared.transcribing.TranscribeEnd.{TranscribeEnd}
+use Rattle.vrepl_transcribe.specs.declared.transcribing.TranscribeEnd.TheVariants as end
+
+-- ---- what is asked for
+
+-- the inputs: the shard of a stream, and the schema of its tables if it is given; the workflow's file; the logs in order,
+-- and their names
+pub record AskedValue : Type 0 where
+  pub shard : List ℕ
+  pub schema : Option (List ℕ)
+  pub workflow : List ℕ
+  pub names : List (List ℕ)
+  pub logs : List (List ℕ)
+
+-- those of the program
+abbrev pub asked_of : TranscribeInputs → AskedValue
+asked_of inputs = record { shard = inputs.shard.now; schema = option_map (λ name. name.now) inputs.schema; workflow = inputs.workflow.items; names = map (λ name. name.now) inputs.names.now; logs = map (λ log. log.items) inputs.logs.items }
+
+-- ---- the feed, as a function
+
+-- why there is no feed: the workflow isn't read; it has no stream of the shard; a table has a name that isn't plain; or what
+-- is wrong with the logs, for the feed of a source
+pub data WhyNot : Type 0 where
+  unread_workflow : plans.Fault → WhyNot
+  no_stream : WhyNot
+  unplain_name : List ℕ → WhyNot
+  unread_logs : SourceTables → LogsFault → WhyNot
+
+abbrev pub of_workflow : Result (List PlanValue) plans.Fault → Result (List PlanValue) WhyNot
+of_workflow (Ok plans) = Ok plans
+of_workflow (Err fault) = Err (unread_workflow fault)
+
+abbrev pub of_stream : Option PlanValue → Result PlanValue WhyNot
+of_stream None = Err no_stream
+of_stream (Some plan) = Ok plan
+
+-- all names of tables are plain, or the one at this place isn't
+abbrev pub of_names : List TableValue → Option ℕ → Result (Unit {0}) WhyNot
+of_names tables None = Ok tt
+of_names tables (Some t) = Err (unplain_name (name_of_table tables t))
+
+abbrev pub of_logs : SourceTables → Result (List ℕ) LogsFault → Result (List ℕ) WhyNot
+of_logs s (Ok feed) = Ok feed
+of_logs s (Err fault) = Err (unread_logs s fault)
+
+-- the feed of the logs under a plan
+abbrev pub feed_under : AskedValue → PlanValue → Result (List ℕ) WhyNot
+feed_under a plan = of_names plan.tables (first_unplain plan.tables) >>= λ _. of_logs (source_in plan a.schema) (feed_of_logs (source_in plan a.schema) a.logs)
+
+-- and under that of the stream of the shard
+abbrev pub feed_asked : AskedValue → Result (List ℕ) WhyNot
+feed_asked a = of_workflow (plans_of a.workflow) >>= λ plans. of_stream (plan_of_shard plans a.shard) >>= λ plan. feed_under a plan
+
+-- ---- the feed, as what it means
+
+-- The bytes are a feed whose groups are just the transactions that the logs commit of the workflow's tables, for the stream of
+-- the shard.
+pub record IsTranscribed (a : AskedValue) (feed : List ℕ) : Type 0 where
+  pub plans : List PlanValue
+  pub said : plans_of a.workflow ≡ Ok plans
+  pub plan : PlanValue
+  pub of : plan_of_shard plans a.shard ≡ Some plan
+  pub is : IsFeedOfLogs (source_in plan a.schema) a.logs feed
+
+-- ---- the line of a refusal
+
+-- the name of the file at fault; behind all files none is
+abbrev pub file_text : List (List ℕ) → ℕ → List ℕ
+file_text names file = option_map_or (λ name. codes " file " ++ name) (slice_get names file) []
+
+-- the byte in it
+abbrev pub byte_text : Option ℕ → List ℕ
+byte_text None = []
+byte_text (Some byte) = codes " byte " ++ decimal byte
+
+-- the table at fault, where it is one's
+abbrev pub table_text : List feed.TableValue → LogsFault → List ℕ
+table_text tables (Tell file (Change fault)) = option_map_or (λ table. codes " table " ++ table.name) (slice_get tables fault.table) []
+table_text tables fault = []
+
+-- `refused`, a number, and what stands behind it, with its LF
+abbrev pub line_of : ℕ → List ℕ → List ℕ
+line_of number details = codes "refused " ++ decimal number ++ details ++ 10 ∷ []
+
+abbrev pub logs_line : List (List ℕ) → List feed.TableValue → LogsFault → Option ℕ → List ℕ
+logs_line names tables fault byte = line_of (number_of fault) (file_text names (file_of fault) ++ byte_text byte ++ table_text tables fault)
+
+-- the line that says why not, where it is of a table's name or of the logs; which byte it names in these isn't said here
+abbrev pub SaysWhy : AskedValue → WhyNot → List ℕ → Type 0
+SaysWhy a (unplain_name name) line = line ≡ line_of 148 (codes " table " ++ name)
+SaysWhy a (unread_logs s fault) line = (byte : Option ℕ) × (line ≡ logs_line a.names s.tables fault byte)
+SaysWhy a why line = ⊥
+
+-- ---- what is answered
+
+-- why there is no feed, which is the definition's reason, unless it is want of memory
+abbrev pub IsWhy : AskedValue → Untranscribed → Type 0
+IsWhy a Memory = Unit {0}
+IsWhy a (Workflow fault) = IfSome (plans.definition_fault_of fault) (λ f. feed_asked a ≡ Err (unread_workflow f))
+IsWhy a NoStream = feed_asked a ≡ Err no_stream
+IsWhy a (Line line) = (why : WhyNot) × (feed_asked a ≡ Err why) × SaysWhy a why line.items
+
+-- the feed of the definition, or why there is none
+abbrev pub Answers : AskedValue → Result (List ℕ) Untranscribed → Type 0
+Answers a (Ok feed) = feed_asked a ≡ Ok feed
+Answers a (Err why) = IsWhy a why
+
+-- ---- how the command ends
+
+-- such a feed is there, and was printed
+abbrev pub PrintsFeed : AskedValue → (List ℕ → Type 0) → Type 0
+PrintsFeed a IsPrinted = (feed : List ℕ) × (feed_asked a ≡ Ok feed) × IsTranscribed a feed × IsPrinted feed
+
+-- the line was printed whole, or a beginning of it and then a write failed
+abbrev pub PrintsLine : AskedValue → Written → Written → Type 0
+PrintsLine a old new = (why : WhyNot) × (line : List ℕ) × (feed_asked a ≡ Err why) × SaysWhy a why line × (IsWritten old new line ⊎ BreaksOff old new line)
+
+-- how it ends: the feed was printed whole; or a beginning of it, and then a write failed; or nothing was, since a line says
+-- why not; or since there is another reason, which isn't told yet
+abbrev pub EndsSo : AskedValue → TranscribeEnd → Written → Written → Written → Written → Type 0
+EndsSo a end.Written old new err_old err_new = PrintsFeed a (IsWritten old new) × (err_new ≡ err_old)
+EndsSo a end.Unwritten old new err_old err_new = PrintsFeed a (BreaksOff old new) × (err_new ≡ err_old)
+EndsSo a end.Told old new err_old err_new = (new ≡ old) × PrintsLine a err_old err_new
+EndsSo a (end.Refused why) old new err_old err_new = (new ≡ old) × (err_new ≡ err_old) × IsWhy a why

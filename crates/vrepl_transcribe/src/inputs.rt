@@ -1,0 +1,16 @@
+//! What `transcribe` is given, each by its name.
+
+/// Whose feed is made, and of which logs.
+#[derive(Drop)]
+pub struct TranscribeInputs<'n, 'w> {
+    /// The shard of the stream whose feed it is.
+    pub shard: &'w str,
+    /// The schema that the logs have its tables in; the keyspace's name unless given.
+    pub schema: Option<&'w str>,
+    /// The workflow's file.
+    pub workflow: Vec<u8>,
+    /// The names of the logs' files.
+    pub names: &'n [&'w str],
+    /// What these files have, in their order.
+    pub logs: Vec<Vec<u8>>,
+}

@@ -1,0 +1,82 @@
+"""The server's log files, of which `vrepl transcribe` makes a feed: by `run` it has the rows of the recorder's feed, and of the
+server, on random tables of the types that are read, in one file and in several, while the server writes the last one."""
+import os
+import random
+from contextlib import closing
+
+import pymysql
+
+from .random_tables import MODES, SCHEMA, Column, Maker
+
+ROUNDS, BATCH = 60, 12
+"""How many tables, and how many one feed has."""
+
+
+class ReadMaker(Maker):
+    """The same without the types that `transcribe` refuses, without labels where the log doesn't tell them, and without ZEROFILL
+    and YEAR(2), which no log tells."""
+
+    labels = True
+
+    def column(self) -> Column:
+        makers = [self.integer, self.decimal, self.bit, self.year, self.date, self.date, self.time, self.characters, self.characters, self.binary]
+        return self.r.choice(makers + [self.labelled] * (2 * self.labels))()
+
+    def statements(self) -> list[str]:
+        """Those of a table without a generated column, and without widths that no log tells."""
+        while True:
+            made = super().statements()
+            if not any(word in made[0] for word in (" AS (LENGTH(", " ZEROFILL", "YEAR(2)")):
+                return made
+
+
+def _make(trial, connection, number: int, labels: bool, r: random.Random) -> None:
+    """Makes a table on the server, with its rows in transactions of several statements, some of which are taken back."""
+    maker = ReadMaker(number)
+    maker.labels = labels
+    made, *rows = maker.statements()
+    with closing(connection.cursor()) as cursor:
+        for statement in (MODES, made):
+            cursor.execute(statement)
+        while rows:
+            part, rows = rows[:3], rows[3:]
+            for statement in ("BEGIN", *part, *(["SAVEPOINT a", *part[:1], "ROLLBACK TO a"] if r.random() < 0.2 else [])):
+                cursor.execute(statement)
+            cursor.execute(r.choice(["COMMIT", "COMMIT", "COMMIT", "ROLLBACK"]))
+            if r.random() < 0.05:
+                cursor.execute("FLUSH BINARY LOGS")
+
+
+def log_files(trial) -> list[str]:
+    """The server's log files, in their order."""
+    names = trial.server.sql("SHOW BINARY LOGS").stdout.decode().split("\n")
+    return [os.path.join(trial.server.folder, "data", name.split("\t")[0]) for name in names if name.startswith("binlog.")]
+
+
+def _end(shown: bytes) -> bytes:
+    """The position of the last group."""
+    return [line.split(b" ")[2] for line in shown.split(b"\n") if line.startswith(b"group ")][-1]
+
+
+def transcribed(trial) -> None:
+    """Four checks a batch."""
+    for begin in range(0, ROUNDS, BATCH):
+        r = random.Random(f"transcribed {begin}")
+        labels = begin // BATCH % 2 == 0
+        metadata = "FULL" if labels else r.choice(["MINIMAL", "NO_LOG"])
+        trial.server.sql(f"CREATE DATABASE {SCHEMA}; RESET MASTER; SET GLOBAL binlog_row_metadata={metadata}, log_bin_compress=0")
+        with closing(pymysql.connect(unix_socket=trial.server.socket, user="root", charset="utf8mb4", autocommit=True)) as connection:
+            for number in range(begin, begin + BATCH):
+                _make(trial, connection, number, labels, r)
+        tables = [f"{SCHEMA}.t{number}" for number in range(begin, begin + BATCH)]
+        workflow, feed = trial.workflow("transcribed.json", ["-"], tables), trial.path("transcribed.feed")
+        trial.recorded("--shard", "-", "--keyspace", "ks", "--out", feed, *tables)
+        logs, made = log_files(trial), trial.path("made.feed")
+        told = trial.made(trial.program, "transcribe", "--save-to", made, "--shard", "-", "--schema", SCHEMA, workflow, *logs)
+        trial.check(f"transcribed {begin} tells nothing", repr(told) if told else None)
+        rows = trial.made(trial.program, "run", workflow, made)
+        trial.same(f"transcribed {begin} as recorded, of {len(logs)} files", rows, trial.made(trial.program, "run", workflow, feed), BATCH)
+        trial.same(f"transcribed {begin} as the server has", rows, trial.selected(workflow, SCHEMA), BATCH)
+        ends = {_end(trial.made(trial.program, "show", "--keyspace", "ks", "--shard", "-", of)) for of in (feed, made)}
+        trial.check(f"transcribed {begin} up to the same position", repr(ends) if len(ends) > 1 else None)
+        trial.server.sql(f"DROP DATABASE {SCHEMA}; RESET MASTER; SET GLOBAL binlog_row_metadata=FULL, log_bin_compress=0")

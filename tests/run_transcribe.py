@@ -1,0 +1,186 @@
+#!/usr/bin/env python3
+"""Makes feeds of logs that are made at random, and compares them with what the transactions in them are.
+
+usage: tests/run_transcribe.py PROGRAM [--seconds N] [--seed N]
+       tests/run_transcribe.py PROGRAM --seed N --case N
+
+Of each case (tests/model/binlog.py): `vrepl transcribe` writes the feed of the workflow's tables, byte for byte, on standard
+output and with --save-to into a file; the transactions are plain ones, rolled back, with savepoints, of other engines, XA, and
+statements, over one to three files. Cut anywhere, the last file is refused 141, 156 or as no log, by its name and a byte that
+is there; one that a server still writes gives the beginning of the feed. With a bit turned a file with checks is refused at
+the event that has the bit, or the feed is the same, or shorter where its server still writes the file. Files in another order are refused 159, or the feed's first one is missing;
+a workflow with another type or another number of columns is refused where the table has rows, by its name, at the byte of a
+transaction. The last line is 'N passed, M failed'.
+"""
+import argparse
+import bisect
+import json
+import os
+import random
+import re
+import subprocess
+import sys
+import tempfile
+import time
+
+sys.path.append(os.path.join(os.path.dirname(os.path.abspath(__file__)), "..", "record"))
+
+from model.binlog import History
+from recorder import wire
+
+LINE = re.compile(rb"refused (\d+) file (log\.\d) byte (\d+)(?: table (\w+))?\n")
+
+
+class Fault(Exception):
+    """What a case has that it shouldn't."""
+
+
+class Place:
+    """A folder in which the program runs."""
+
+    def __init__(self, program: str, folder: str) -> None:
+        self.program, self.folder = os.path.abspath(program), folder
+
+    def put(self, name: str, data: bytes) -> str:
+        with open(os.path.join(self.folder, name), "wb") as file:
+            file.write(data)
+        return name
+
+    def run(self, *words: str) -> tuple[int, bytes, bytes]:
+        ran = subprocess.run([self.program, *words], cwd=self.folder, capture_output=True, timeout=60)
+        return ran.returncode, ran.stdout, ran.stderr
+
+
+def wants(told: bool, what: object) -> None:
+    if not told:
+        raise Fault(what)
+
+
+class Trial:
+    """One case."""
+
+    def __init__(self, place: Place, r: random.Random) -> None:
+        self.place, self.r, self.history = place, r, History(r, wire)
+        place.put("workflow", json.dumps(self.history.workflow()).encode())
+        self.names = [place.put(f"log.{number}", bytes(log.data)) for number, log in enumerate(self.history.logs)]
+
+    def made(self, names: list[str], workflow: str = "workflow", words: tuple = ()) -> tuple[int, bytes, bytes]:
+        schema = [f"--schema={self.history.schema}"] if self.history.schema else []
+        return self.place.run("transcribe", *words, f"--shard={self.history.shard}", *schema, workflow, *names)
+
+    def line(self, ran: tuple[int, bytes, bytes], numbers: set[int], name: str) -> re.Match:
+        """The line of a refusal with one of these numbers, of this file."""
+        status, out, err = ran
+        line = LINE.fullmatch(err)
+        wants(status == 1 and not out and line and int(line[1]) in numbers and line[2].decode() == name, ran)
+        return line
+
+    def plain(self) -> None:
+        wants(self.made(self.names) == (0, self.history.feed, b""), (self.made(self.names), self.history.feed))
+        wants(self.made(self.names, words=("--save-to=feed",)) == (0, b"", b""), "--save-to")
+        with open(os.path.join(self.place.folder, "feed"), "rb") as file:
+            wants(file.read() == self.history.feed, "the file")
+
+    def begins(self, feed: bytes) -> bool:
+        """Whether a feed has the first messages of the whole one, and then perhaps a position."""
+        front, commit, _ = feed.rpartition(b"\x0a\x02\x08\x03")
+        return self.history.feed.startswith(front + commit)
+
+    def cut(self) -> None:
+        log = self.history.logs[-1]
+        size = self.r.randrange(len(log.data))
+        name = self.place.put(self.names[-1], bytes(log.data[:size]))
+        ran = self.made(self.names)
+        if ran[0] == 0:
+            wants(self.begins(ran[1]), ("cut", size, ran))
+        else:
+            line = self.line(ran, {140, 141, 144, 156, 159}, name)
+            wants(int(line[3]) <= size, ("a byte behind the end", size, ran))
+        self.place.put(name, bytes(log.data))
+
+    def turned(self) -> None:
+        number = self.r.randrange(len(self.history.logs))
+        log = self.history.logs[number]
+        data = bytearray(log.data)
+        byte = self.r.randrange(len(data))
+        data[byte] ^= 1 << self.r.randrange(8)
+        self.place.put(self.names[number], bytes(data))
+        ran = self.made(self.names)
+        self.place.put(self.names[number], bytes(log.data))
+        if not log.checked and byte >= log.places[1]:
+            return
+        if ran[0] == 0:
+            wants(ran[1] == self.history.feed or log.in_use and self.begins(ran[1]), ("turned", number, byte, ran))
+            return
+        line = LINE.fullmatch(ran[2])
+        wants(ran[0] == 1 and not ran[1] and line, ("turned", number, byte, ran))
+        begin = log.places[bisect.bisect_right(log.places, byte) - 1] if byte >= 4 else 0
+        if byte >= 4 and byte != log.places[0] + 17:
+            wants(line[2].decode() == self.names[number] and int(line[3]) == begin, ("turned", number, byte, begin, ran))
+
+    def reversed(self) -> None:
+        if len(self.names) > 1:
+            self.line(self.made(self.names[::-1]), {159}, self.names[-1])
+        self.line(self.made([self.names[0], self.names[0]]), {159, 156}, self.names[0])
+
+    def altered(self) -> None:
+        """Another type, or a column more."""
+        said = self.history.workflow()
+        table = self.r.choice(said["tables"])
+        more = self.r.random() < 0.5
+        if more:
+            table["columns"].append(["more", "INT64"])
+        else:
+            table["columns"][0][1] = "UINT8"
+        self.place.put("altered", json.dumps(said).encode())
+        ran = self.made(self.names, "altered")
+        if table["name"] not in self.history.fields:
+            wants(ran == (0, self.history.feed, b""), ("altered", ran))
+            return
+        status, out, err = ran
+        line = LINE.fullmatch(err)
+        wants(status == 1 and not out and line and int(line[1]) == (148 if more else 149) and line[4].decode() == table["name"], ("altered", ran))
+        wants((int(line[2][4:]), int(line[3])) in self.history.starts, ("no transaction's beginning", ran, self.history.starts))
+
+    def all(self) -> None:
+        self.plain()
+        for _ in range(4):
+            self.cut()
+            self.turned()
+        self.reversed()
+        self.altered()
+
+
+def one(program: str, seed: int, case: int) -> str | None:
+    with tempfile.TemporaryDirectory(prefix="vrepl-transcribe-") as folder:
+        try:
+            Trial(Place(program, folder), random.Random(f"{seed} {case}")).all()
+        except Fault as fault:
+            return f"--seed {seed} --case {case}: {fault}"
+    return None
+
+
+def main() -> int:
+    parser = argparse.ArgumentParser()
+    parser.add_argument("program")
+    parser.add_argument("--seconds", type=float, default=10)
+    parser.add_argument("--seed", type=int, default=random.randrange(1 << 30))
+    parser.add_argument("--case", type=int)
+    said = parser.parse_args()
+    end, faults, case = time.monotonic() + said.seconds, [], 0
+    if said.case is not None:
+        faults, case = [one(said.program, said.seed, said.case)], 1
+    else:
+        while time.monotonic() < end and len(faults) < 3:
+            faults.append(one(said.program, said.seed, case))
+            faults, case = [fault for fault in faults if fault], case + 1
+    faults = [fault for fault in faults if fault]
+    for fault in faults:
+        print(fault)
+    print(f"{case} cases, seed {said.seed}")
+    print(f"{0 if faults else 1} passed, {1 if faults else 0} failed")
+    return 1 if faults else 0
+
+
+if __name__ == "__main__":
+    sys.exit(main())
