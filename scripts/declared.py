@@ -7,6 +7,8 @@ from words import Words
 
 # Constructors of the library that a pattern names.
 CONSTRUCTORS = set("Some None Ok Err Less Equal Greater zero suc [] ◌∷◌ true false pos negsuc".split())
+# Crates whose words are told as the library's are: what they define is prose.
+WORDED = {"refusal_words"}
 # Types that a source has without an import.
 PRELUDE = {"Option", "Vec", "String", "Box", "Result", "Self"}
 
@@ -72,7 +74,7 @@ class Library:
     @staticmethod
     def is_own(module):
         parts = module.split(".")
-        return parts[0] == "Rattle" and os.path.isdir(os.path.join(CRATES, parts[1]))
+        return parts[0] == "Rattle" and parts[1] not in WORDED and os.path.isdir(os.path.join(CRATES, parts[1]))
 
     def module(self, name):
         if name not in self.modules:

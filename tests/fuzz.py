@@ -21,7 +21,7 @@ import sys
 import tempfile
 import time
 
-from model import program, random_case
+from model import program, random_case, refusal
 
 SECONDS = 60
 ALIKE = 20
@@ -43,7 +43,7 @@ def judge(built, place, seed, number):
         said = run(built, place, case)
     except subprocess.TimeoutExpired:
         said = f"no end after {SECONDS} seconds"
-    kind = case.words[0] + " " + (said[2].split() + [b"-"] * 2)[1].decode() if isinstance(said, tuple) else case.words[0]
+    kind = f"{case.words[0]} {refusal.number_of(said[2])}" if isinstance(said, tuple) else case.words[0]
     is_right = said in wanted
     return kind, is_right, "" if is_right else f"{shlex.join(case.words)}\n  answers {said}\n  wanted  {wanted[:3]}"
 

@@ -6,8 +6,8 @@ usage: tests/run_sweep.py PROGRAM
 The built program runs over every case of tests/cases, as many cases at once as there are cores, and once for
 each growth that it asks for: with that growth refused, and with that one and all later ones refused
 (tests/refuse_growth.c). It has to
-do what the case wants, or to print nothing, say `refused 72` and end with status 1; the line of a
-refusal's place, of `check`, may be missing or stand behind `refused 72`. In a script the
+do what the case wants, or to print nothing, say `refused 72`, or the same as JSON where the words ask for that, and end with status 1; a
+refusal's place, of `check`, may be missing or be told of `refused 72`. In a script the
 line of a refused step is its reply: there `refused 72` may stand in place of a reply, behind which the
 script goes on from another state.
 
@@ -33,7 +33,7 @@ import tempfile
 import preloaded
 import refused_steps
 import run_cases
-from model import making, program as model
+from model import making, program as model, refusal
 
 # The crates whose tests are swept, each with words of some tests' names and the last growth that is refused of
 # the tests of the first word that fits: behind it a step of a script is refused, which these tests take for a wrong
@@ -54,7 +54,7 @@ FEWEST_THREADS = 3
 TESTS = os.path.dirname(os.path.abspath(__file__))
 ROOT = os.path.dirname(TESTS)
 REFUSED = (1, b"", b"refused 72\n")
-PLACE = re.compile(rb"^place .*\n", re.M)
+REFUSED_AS_JSON = (1, b"", refusal.as_json(b"refused 72\n"))
 PASSED_TEST = re.compile(r"^test (\S+) \.\.\. ok$", re.M)
 FAILED_TEST = re.compile(r"^test (\S+) \.\.\. FAILED\n((?:    .*\n)*)", re.M)
 IS_MEMORY = re.compile(r"^ +(?:error|left): .*\b(?:Memory|OutOfMemory|AllocError|AllocFailed)\b", re.M)
@@ -71,8 +71,10 @@ def is_reply_of_a_step(case, status, stdout, stderr):
 
 def is_told_without_its_place(case, status, stdout, stderr):
     """Answers whether a refusal is the one that is wanted, or for want of memory, without the place of its fault or with it."""
-    said = status, stdout, PLACE.sub(b"", stderr)
-    return said == REFUSED or said == (case.status, case.stdout, PLACE.sub(b"", case.stderr or b""))
+    said = status, stdout, refusal.without_place(stderr)
+    # (as text too before the words are read)
+    wanted = [REFUSED] + [REFUSED_AS_JSON] * (b"--json" in case.words)
+    return said in wanted or said == (case.status, case.stdout, refusal.without_place(case.stderr or b""))
 
 
 def sweep_case(program, library, name):

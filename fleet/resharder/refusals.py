@@ -1,4 +1,5 @@
 """What the program's refusal means, and where it stands, as one line."""
+import json
 import re
 import subprocess
 
@@ -23,9 +24,19 @@ def said_of(command: list[str], told: str, status: int, look: list[str] | None =
 
 
 def _from_refusal(told: str) -> list[str]:
-    """The lines from the refusal on, before which may stand how far the command was; all where there is none."""
-    lines = told.strip().split("\n")
+    """The lines from the refusal on, before which may stand how far the command was; all where there is none. One of JSON
+    is as the lines in its place."""
+    lines = _plain(told.strip()).split("\n")
     return lines[next((at for at, line in enumerate(lines) if line.startswith("refused ")), 0):]
+
+
+def _plain(told: str) -> str:
+    """A refusal of JSON as the lines in its place, anything else as it is."""
+    if not told.startswith("{"):
+        return told
+    said = json.loads(told)
+    words = "".join(f" {word} {value}" for word, value in said["details"].items())
+    return "\n".join([f"refused {said['refused']}{words}", *([f"place {said['place']}"] if said["place"] else [])])
 
 
 def _answer(command: list[str]) -> subprocess.CompletedProcess:

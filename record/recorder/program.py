@@ -1,4 +1,5 @@
 """The program: where it is, and what it answers."""
+import json
 import os
 import signal
 import subprocess
@@ -28,7 +29,7 @@ class Program:
         except OSError as fault:
             raise Stop("no program", f"at {self.path}", f"{fault.strerror}; --program names another") from None
         if done.returncode not in (0, DIFFERS):
-            told = done.stderr.decode(errors="replace").split("\n")
+            told = _plain(done.stderr.decode(errors="replace")).split("\n")
             # (before it may stand how far the command was)
             at = next((at for at, line in enumerate(told) if line.startswith("refused ")), 0)
             raise Stop(who, "", "; ".join(told[at:at + 2]).rstrip("; ") or _ended(done.returncode))
@@ -38,6 +39,15 @@ class Program:
 def name_of(file: BinaryIO) -> str:
     """The name by which a program that is passed an open file reads it from its beginning."""
     return f"/dev/fd/{file.fileno()}"
+
+
+def _plain(told: str) -> str:
+    """A refusal of JSON as the lines in its place, anything else as it is."""
+    if not told.startswith("{"):
+        return told
+    said = json.loads(told)
+    words = "".join(f" {word} {value}" for word, value in said["details"].items())
+    return "\n".join([f"refused {said['refused']}{words}", *([f"place {said['place']}"] if said["place"] else [])])
 
 
 def _ended(status: int) -> str:

@@ -360,7 +360,7 @@ def told_of(compare, workflow, source, target, first):
     try:
         it = compare(workflow, source, target, first)
     except vrepl.Refused as refused:
-        line = re.search(r"line (\d+)", refused.place or refused.line)
+        line = re.search(r"line (\d+)", f"{refused.line} {refused.place}")
         return refused.number, line and line[1]
     return 0, it.processed, it.matching, it.mismatched, it.extra_source, it.extra_target, it.differences
 

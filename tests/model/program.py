@@ -1,7 +1,5 @@
 """What the program answers to its words, files and standard input: status, output and error."""
-import re
-
-from . import Refused, checkpoint
+from . import Refused, checkpoint, refusal
 from .board import Board, dump, key_text, read_script
 from .check import check
 from .feed import BadPosition, Feed, bytes_of_hex, is_within, read_position, show, show_json
@@ -10,12 +8,12 @@ from .vdiff import vdiff
 from .workflow import Workflow
 
 # Refusals of a workflow whose place the model doesn't know: tests of plan_tests hold these.
-UNPLACED = re.compile(rb"(refused (?:51|53|54|55|57)(?: .*)?\n)place .+\n")
+UNPLACED = ("51", "53", "54", "55", "57")
 
 
 def without_place(error):
     """What is said on standard error, without the place where the model doesn't know it."""
-    return UNPLACED.sub(rb"\1", error)
+    return refusal.without_place(error) if refusal.number_of(error) in UNPLACED else error
 
 
 def opened(is_hex, workflow, feeds):
@@ -187,7 +185,7 @@ def answers(words, files, stdin=b""):
     try:
         said = said_by(words, files, stdin)
     except Refused as refused:
-        return [(1, b"", refused.line)]
+        return [(1, b"", refusal.as_json(refused.line) if "--json" in words else refused.line)]
     if isinstance(said, bytes):
         return [(0, said, b"")]
     if isinstance(said[0], int):

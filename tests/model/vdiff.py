@@ -77,11 +77,11 @@ def whole_object(workflow, one, other, counts, parts, keys):
 
 
 def read_named(workflow, data, name, as_json):
-    """The rows of a dump; where all is JSON, a bad one is named by an object behind the refusal's line."""
+    """The rows of a dump; where all is JSON, a bad one is named."""
     try:
         return read_dump(workflow, data)
     except Refused as refused:
-        refused.line += line({"error": {"file": name, "number": 121}}) if as_json else b""
+        refused.line += b"place file %s\n" % name.encode() if as_json else b""
         raise
 
 

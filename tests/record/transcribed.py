@@ -2,6 +2,7 @@
 server, on random tables of the types that are read, in one file and in several, while the server writes the last one."""
 import os
 import random
+import re
 from contextlib import closing
 
 import pymysql
@@ -21,6 +22,14 @@ class ReadMaker(Maker):
     def column(self) -> Column:
         makers = [self.integer, self.decimal, self.bit, self.year, self.date, self.date, self.time, self.characters, self.characters, self.binary]
         return self.r.choice(makers + [self.labelled] * (2 * self.labels))()
+
+    def labelled(self) -> Column:
+        """No SET in a charset of two or four bytes a character, or with an empty label: `transcribe` joins such labels by other
+        bytes than the server does (docs/RECORD.md)."""
+        while True:
+            column = super().labelled()
+            if not (column.definition.startswith("SET(") and re.search(r"utf16|ucs2|utf32|''", column.definition)):
+                return column
 
     def statements(self) -> list[str]:
         """Those of a table without a generated column, and without widths that no log tells."""

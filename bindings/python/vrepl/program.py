@@ -45,11 +45,21 @@ def _asked(*words: str, given: bytes = b"") -> tuple[int, bytes]:
     ran = subprocess.run([program(), *words], input=given, capture_output=True, check=False)
     if ran.returncode in (0, 3):
         return ran.returncode, ran.stdout
-    line = ran.stderr.decode(errors="replace").split("\n", 1)[0]
+    told = ran.stderr.decode(errors="replace")
+    if ran.returncode == 1:
+        raise _refused(told)
+    raise Usage(told)
+
+
+def _refused(told: str) -> Exception:
+    """What the program said of a refusal, in either form."""
+    line = told.split("\n", 1)[0]
+    if line.startswith("{"):
+        said = json.loads(line)
+        words = "".join(f" {word} {value}" for word, value in said["details"].items())
+        return Refused(said["refused"], f"refused {said['refused']}{words}", said["place"] or "")
     refused = _REFUSED.match(line)
-    if ran.returncode == 1 and refused:
-        raise Refused(int(refused[1]), line)
-    raise Usage(ran.stderr.decode(errors="replace"))
+    return Refused(int(refused[1]), line) if refused else Usage(told)
 
 
 def words_of(number: int) -> str:

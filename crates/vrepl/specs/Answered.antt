@@ -14,7 +14,6 @@ use Rattle.vrepl.specs.Compared.{asks_more, ComparedEnds}
 use Rattle.vrepl.specs.declared.answering.Asked.{Asked}
 use Rattle.vrepl.specs.declared.answering.Asked.TheVariants as asked
 use Rattle.vrepl_main.specs.ScriptRun.{script_asked}
-use Rattle.vrepl_main.specs.Command.{TextEnds}
 use Rattle.vrepl_main.specs.JoinedRun.{JoinEnds}
 use Rattle.vrepl_main.specs.Replied.{StepEnds}
 use Rattle.vrepl_main.specs.ResumedRun.{ResumeEnds}
@@ -24,6 +23,7 @@ use Rattle.vrepl.specs.Stated.{IsStatusAsked, StatusEnds}
 use Rattle.vrepl.specs.Tiled.{TilesEnds}
 use Rattle.vrepl_compact.specs.Compacted.{CompactEnds}
 use Rattle.vrepl_feed.specs.Fed.{FeedEnds}
+use Rattle.vrepl_refusal.specs.Form.{TextEndsAs}
 
 -- the command prints what its inputs make and does no more: it puts nothing into a file
 abbrev pub IsAnswering : Words → Type 0
@@ -80,7 +80,7 @@ IsUnreadFor words = λ refusal. ⊥
 
 -- how it ends
 abbrev pub AnswerEnds : Asked → ℕ → Written → Written → Written → Written → Type 0
-AnswerEnds (asked.Show words feed) = TextEnds (text_asked words.now feed.items)
+AnswerEnds (asked.Show words feed) = TextEndsAs words.now.report_form (text_asked words.now feed.items)
 AnswerEnds (asked.Step inputs) = StepEnds (script_asked inputs)
 AnswerEnds (asked.Run inputs) = RunEnds (opened_asked inputs)
 AnswerEnds (asked.Save strict inputs) = SaveEnds strict (script_asked inputs)

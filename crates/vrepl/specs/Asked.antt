@@ -24,11 +24,22 @@ use Rattle.vrepl_main.specs.declared.input.InputName.TheVariants.{File, Standard
 use Rattle.vrepl_words.specs.declared.words.Feed.{Feed}
 use Rattle.vrepl_words.specs.declared.words.Show.{Show}
 use Rattle.vrepl_words.specs.declared.words.Vdiff.{Vdiff}
+use Rattle.vrepl_words.specs.declared.words.Words.{Words}
+use Rattle.vrepl_words.specs.declared.words.Words.TheVariants as ways
 
 -- the text of a feed's groups in this form, or why it is refused
 abbrev pub text_as : ReportForm → FeedForm → List ℕ → List ℕ → List ℕ → Result (List ℕ) Reason
 text_as Lines form feed keyspace shard = shown_feed form feed (shown_source keyspace shard)
 text_as Json form feed keyspace shard = json_feed form feed (shown_source keyspace shard)
+
+-- how a refusal is printed: as JSON where a report is
+abbrev pub report_form_asked : Words → ReportForm
+report_form_asked (ways.Show words) = words.report_form
+report_form_asked (ways.Vdiff words) = words.report_form
+report_form_asked (ways.Check words) = words.report_form
+report_form_asked (ways.Status words) = words.report_form
+report_form_asked (ways.Explain words) = words.report_form
+report_form_asked words = Lines
 
 -- the text that the words of `show` ask for of a feed, or why it is refused
 abbrev pub text_asked : Show → List ℕ → Result (List ℕ) Reason

@@ -3,11 +3,12 @@ use Rattle.std.specs.Prelude.{ℕ, true, false}
 use Rattle.vdiff_core.specs.Printing.{Written}
 use Rattle.vrepl_check.specs.Checking.{PrintsReport, report_asked, text_of_report}
 use Rattle.vrepl_check.specs.declared.inputs.CheckInputs.{CheckInputs}
-use Rattle.vrepl_main.specs.Command.{Ends, IsGivenText, PrintsRefusal}
+use Rattle.vrepl_main.specs.Command.{Ends, IsGivenText}
+use Rattle.vrepl_refusal.specs.Form.{PrintsPlacedAs}
 
 -- the line of a refusal was printed; what is told behind it of the fault's place isn't said here
 abbrev pub PrintsUnchecked : CheckInputs → Written → Written → Written → Type 0
-PrintsUnchecked inputs old new err_old = (between : Written) × PrintsRefusal IsGivenText (text_of_report (report_asked inputs)) old new err_old between
+PrintsUnchecked inputs old new err_old = (between : Written) × PrintsPlacedAs inputs.report_form IsGivenText (text_of_report (report_asked inputs)) old new err_old between
 
 -- how `check` ends
 abbrev pub ReportEnds : CheckInputs → ℕ → Written → Written → Written → Type 0

@@ -2,6 +2,7 @@ pub mod Answered
 pub mod Asked
 pub mod Checked
 pub mod Compared
+pub mod Explained
 pub mod Kept
 pub mod Stated
 pub mod Tiled

@@ -42,15 +42,19 @@ pub(crate) fn read_files<'n, 'w>(
     Ok(FileInputs { names, texts })
 }
 
+/// The place of a refusal that is of a file. None where memory is wanting.
+pub(crate) fn file_place(alloc: Global, names: &[&str], file: usize) -> Option<String> {
+    let name = names.get(file)?;
+    let name = shown(alloc, name.as_bytes()).ok()?;
+    format!(in alloc; "file {name}").ok()
+}
+
 /// Tells on `err`, behind the line of a refusal, which file it is of. Tells nothing where memory is wanting.
 pub(crate) fn print_file<E: Out>(alloc: Global, names: &[&str], file: usize, err: &mut E) {
-    let Some(name) = names.get(file) else {
+    let Some(place) = file_place(alloc, names, file) else {
         return;
     };
-    let Ok(name) = shown(alloc, name.as_bytes()) else {
-        return;
-    };
-    if let Ok(line) = format!(in alloc; "place file {name}\n") {
+    if let Ok(line) = format!(in alloc; "place {place}\n") {
         let _ = put_all(err, line.as_bytes());
     }
 }

@@ -5,12 +5,14 @@ ghost use Rattle.vrepl.specs.Stated.{IsStatusAsked, StatusEnds};
 ghost use Rattle.vrepl_main.specs.Inputs.{IsUnreadAmong};
 ghost use Rattle.vrepl_main.specs.declared.input.InputName.TheVariants.{File};
 
-use crate::files::{FileInputs, print_file, read_files};
+use crate::files::{FileInputs, file_place, print_file, read_files};
+use refusal_json::{Details, print_refusal};
 use status_said::{StatusEnd, status};
 use std::alloc::Global;
 use vdiff_core::{Out, put_all};
 use vrepl_choices::ReportForm;
-use vrepl_main::{CommandRefusal, refuse};
+use vrepl_main::CommandRefusal;
+use vrepl_refusal::refuse_as;
 use vrepl_words::words::Status;
 
 /// The inputs of `status`.
@@ -37,16 +39,37 @@ pub(crate) fn read_status<'n, 'w>(
     })
 }
 
-/// Prints the line of a file that is no checkpoint, and behind it which one it is.
-fn refuse_checkpoint<E: Out>(alloc: Global, names: &[&str], file: usize, err: &mut E) -> u8
+/// The number of the refusal of a file that is no checkpoint.
+const BAD_CHECKPOINT: u64 = 116;
+
+/// Prints the refusal of a file that is no checkpoint, and which one it is.
+fn refuse_checkpoint<E: Out>(
+    alloc: Global,
+    form: ReportForm,
+    names: &[&str],
+    file: usize,
+    err: &mut E,
+) -> u8
     ensures { result ≡ 1 }
 {
-    let _ = put_all(err, b"refused 116\n".as_slice());
-    print_file(alloc, names, file, err);
+    match form {
+        ReportForm::Lines => {
+            let _ = put_all(err, b"refused 116\n".as_slice());
+            print_file(alloc, names, file, err);
+        }
+        ReportForm::Json => {
+            let place = file_place(alloc, names, file);
+            let nothing = Details {
+                first: None,
+                second: None,
+            };
+            let _ = print_refusal(err, BAD_CHECKPOINT, &nothing, place.as_deref());
+        }
+    }
     1
 }
 
-/// Prints on `out` what is said of the checkpoints; or the line of a refusal on `err`, and behind it which file it is of.
+/// Prints on `out` what is said of the checkpoints; or a refusal on `err`, and which file it is of, in the same form.
 pub(crate) fn state<W: Out, E: Out>(
     alloc: Global,
     inputs: &StatusInputs<'_, '_>,
@@ -57,10 +80,13 @@ pub(crate) fn state<W: Out, E: Out>(
     ensures status { result ≤ 1 }
 {
     let files = &inputs.files;
-    match status(alloc, inputs.report_form, files.names, &files.texts, out) {
+    let form = inputs.report_form;
+    match status(alloc, form, files.names, &files.texts, out) {
         StatusEnd::Printed => 0,
-        StatusEnd::Unwritten => refuse(err, &CommandRefusal::CannotWrite { file: "-" }),
-        StatusEnd::Memory => refuse(err, &CommandRefusal::Memory),
-        StatusEnd::Broken { file } => refuse_checkpoint(alloc, files.names, file, err),
+        StatusEnd::Unwritten => {
+            refuse_as(form, err, &CommandRefusal::CannotWrite { file: "-" }, None)
+        }
+        StatusEnd::Memory => refuse_as(form, err, &CommandRefusal::Memory, None),
+        StatusEnd::Broken { file } => refuse_checkpoint(alloc, form, files.names, file, err),
     }
 }

@@ -12,7 +12,8 @@ use Rattle.vrepl_main.specs.Opening.{OpenedValue, opened_bytes}
 use Rattle.vrepl_main.specs.Reasons.{Reason, bad_feed}
 use Rattle.vrepl_check.specs.declared.inputs.CheckInputs.{CheckInputs}
 use Rattle.vdiff_core.specs.Printing.{Written}
-use Rattle.vrepl_main.specs.Command.{Ends, IsGivenText, PrintsRefusal, PrintsWhole}
+use Rattle.vrepl_main.specs.Command.{Ends, IsGivenText, PrintsWhole}
+use Rattle.vrepl_refusal.specs.Form.{PrintsPlacedAs}
 
 -- the bytes of a feed; a workflow isn't opened over what has none
 abbrev pub bytes_or_none : Option (List ℕ) → List ℕ
@@ -57,6 +58,6 @@ IsFound strict found (Err reason) = ⊥
 abbrev pub PrintsReport : Bool → CheckInputs → Written → Written → Type 0
 PrintsReport found inputs old new = IsFound inputs.strict found (report_asked inputs) × PrintsWhole (text_of_report (report_asked inputs)) old new
 
--- how `check` ends: with 3 where the report finds something
+-- how `check` ends: with 3 where the report finds something; which place is told of a refusal isn't said here
 abbrev pub CheckEnds : CheckInputs → ℕ → Written → Written → Written → Written → Type 0
-CheckEnds inputs status old new err_old err_new = Ends status (PrintsReport false inputs old new) (PrintsReport true inputs old new) (PrintsRefusal IsGivenText (text_of_report (report_asked inputs)) old new err_old err_new)
+CheckEnds inputs status old new err_old err_new = Ends status (PrintsReport false inputs old new) (PrintsReport true inputs old new) (PrintsPlacedAs inputs.report_form IsGivenText (text_of_report (report_asked inputs)) old new err_old err_new)

@@ -8,11 +8,13 @@ ghost use Rattle.vrepl_check.specs.Checking.{bytes_or_none, names_of, report_of_
 ghost use Rattle.vrepl_check.specs.Clean.{IsGood};
 
 use crate::inputs::CheckInputs;
+use crate::placing::place_as_json;
 use check_said::Said;
 use feed_check::{Checked, check_feeds, checks_warn_unless_feeds_are_faultless};
 use std::alloc::{AllocError, Global};
 use vdiff_core::Out;
-use vrepl_main::{CommandRefusal, GivenFeed, given_feeds, open_workflow, refuse};
+use vrepl_main::{CommandRefusal, GivenFeed, given_feeds, open_workflow};
+use vrepl_refusal::refuse_as;
 
 /// Checks a workflow with its feeds, one in the order of the streams each, and prints on `out` a line for each
 /// table of each stream with the rows that the stream passes, then a line for each stream and a line for each of
@@ -20,7 +22,8 @@ use vrepl_main::{CommandRefusal, GivenFeed, given_feeds, open_workflow, refuse};
 /// which no row passes the stream's filter, updates that put a row at another key; and behind these warnings of what
 /// can't be so: a stream without a group, changes that aren't true of the rows that the changes before them leave, with
 /// the first ten of each kind, events that are passed over. Last stands what the workflow's file says in vain. Or prints
-/// the line of a refusal on `err` and then nothing on `out`, unless it is `out` that can't be written. The faults are
+/// the line of a refusal on `err` and then nothing on `out`, unless it is `out` that can't be written; as JSON that line
+/// has the place of the fault too. The faults are
 /// found in this order: those of opening the workflow with its feeds, as `run` finds them; then of each feed the
 /// first group that isn't sound. As JSON all is one line, which has every thing that is told and not the first ten of
 /// a kind. Answers the status: 0 where nothing is warned of, and so the workflow and its feeds are without a fault, and
@@ -41,7 +44,10 @@ pub fn check<W: Out, E: Out>(
     match print_check(alloc, inputs, out) {
         Ok(false) => 0,
         Ok(true) => 3,
-        Err(refusal) => refuse(err, &refusal),
+        Err(refusal) => {
+            let place = place_as_json(alloc, inputs);
+            refuse_as(inputs.report_form, err, &refusal, place.as_deref())
+        }
     }
 }
 

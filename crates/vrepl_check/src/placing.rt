@@ -8,6 +8,7 @@ use source_feed::{Feed, FeedFault};
 use std::alloc::{AllocError, Global};
 use std::sync::Arc;
 use vdiff_core::{Out, put_all};
+use vrepl_choices::ReportForm;
 use vrepl_main::{GivenFeed, given_feeds};
 use workflow_places::place_of as workflow_place;
 
@@ -80,11 +81,22 @@ fn place_text(alloc: Global, inputs: &CheckInputs<'_, '_>) -> Result<Option<Stri
     feeds_place(alloc, inputs.files, &plans, &given)
 }
 
-/// Tells on `err`, behind the line of a refusal, where the fault stands, in a line that begins with `place `: of
-/// a workflow file the path, or of what is no JSON line and column, and what was expected; of a feed with a
+/// Where the fault stands, for a refusal that is told as JSON; nothing where it is told as text, or where memory is wanting.
+pub(crate) fn place_as_json(alloc: Global, inputs: &CheckInputs<'_, '_>) -> Option<String> {
+    match inputs.report_form {
+        ReportForm::Json => place_text(alloc, inputs).ok()?,
+        ReportForm::Lines => None,
+    }
+}
+
+/// Tells on `err`, behind the line of a refusal that is told as text, where the fault stands, in a line that begins with
+/// `place `: of a workflow file the path, or of what is no JSON line and column, and what was expected; of a feed with a
 /// broken message, an event that isn't read or a FIELD that differs the stream, its file, the message, its first
 /// byte, and how many whole groups stand before it. Tells nothing else, and nothing where memory is wanting.
 pub fn print_place<E: Out>(alloc: Global, inputs: &CheckInputs<'_, '_>, err: &mut E) {
+    if let ReportForm::Json = inputs.report_form {
+        return;
+    }
     let Ok(Some(place)) = place_text(alloc, inputs) else {
         return;
     };

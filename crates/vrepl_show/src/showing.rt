@@ -4,9 +4,11 @@ ghost use Rattle.std.specs.Prelude.{◌≡◌, Some};
 ghost use Rattle.vdiff_core.specs.Printing.{Prints};
 ghost use Rattle.show_json.specs.Columns.{columns_of};
 ghost use Rattle.show_json.specs.Text.{json_text_of};
-ghost use Rattle.vrepl_main.specs.Command.{PrintsText, TextEnds};
+ghost use Rattle.vrepl_choices.specs.declared.report_form.ReportForm.TheVariants.{Json};
+ghost use Rattle.vrepl_main.specs.Command.{PrintsText};
 ghost use Rattle.vrepl_main.specs.HexText.{hex_bytes};
 ghost use Rattle.vrepl_main.specs.Show.{shown_source};
+ghost use Rattle.vrepl_refusal.specs.Form.{TextEndsAs};
 ghost use Rattle.vrepl_show.specs.ShowJson.{json_bytes, json_feed};
 
 use show_json::{FeedColumns, print_groups_json};
@@ -14,7 +16,8 @@ use source_feed::read_groups;
 use std::alloc::Global;
 use vdiff_core::Out;
 use vrepl_choices::FeedForm;
-use vrepl_main::{CommandRefusal, bytes_of_hex, refuse};
+use vrepl_main::{CommandRefusal, bytes_of_hex};
+use vrepl_refusal::refuse_json;
 
 /// Prints the groups of a feed of bytes, or nothing where it is refused.
 fn print_bytes<W: Out>(
@@ -64,7 +67,7 @@ fn print_feed<W: Out>(
 }
 
 /// Prints the groups of a feed, given in this form, that was recorded from a shard of a keyspace (both may be empty) on
-/// `out`, each as an object of JSON on a line of its own, or prints the line of its refusal on `err` and nothing on `out`.
+/// `out`, each as an object of JSON on a line of its own, or prints its refusal as such a line on `err` and nothing on `out`.
 /// Answers the status: 0, or 1 after a refusal, also of memory or where `out` can't be written.
 pub fn show_json<W: Out, E: Out>(
     alloc: Global,
@@ -75,11 +78,11 @@ pub fn show_json<W: Out, E: Out>(
     out: &mut W,
     err: &mut E,
 ) -> u8
-    ensures ends { TextEnds (json_feed form feed.now (shown_source keyspace.now shard.now)) result (W.written out.old) (W.written out.new) (E.written err.old) (E.written err.new) }
+    ensures ends { TextEndsAs Json (json_feed form feed.now (shown_source keyspace.now shard.now)) result (W.written out.old) (W.written out.new) (E.written err.old) (E.written err.new) }
     ensures quiet { result ≡ 0 → err.new ≡ err.old }
 {
     match print_feed(alloc, form, feed, keyspace, shard, out) {
         Ok(()) => 0,
-        Err(refusal) => refuse(err, &refusal),
+        Err(refusal) => refuse_json(err, &refusal, None),
     }
 }

@@ -1,5 +1,5 @@
 -- Why `vdiff` is refused, and what is told of it.
-use Rattle.std.proofs.Common.{◌≡◌, ◌∙◌, ap, sym, subst, ℕ, List, [], ◌∷◌, refl, inl, inr, Result, Ok, Err}
+use Rattle.std.proofs.Common.{◌≡◌, ◌∙◌, ap, sym, subst, ℕ, List, [], ◌∷◌, refl, inl, inr, Option, None, Result, Ok, Err}
 use Rattle.filter_rule.specs.Faults as plans
 use Rattle.filter_rule.specs.PlanValue.{PlanValue}
 use Rattle.filter_rule.specs.Reading.{plans_of}
@@ -20,7 +20,7 @@ use Rattle.vrepl_main.specs.Comparison.{AreDumps, Compared}
 use Rattle.vrepl_vdiff.specs.NamedDump.{NamedDump}
 use Rattle.vrepl_vdiff.specs.Reading.{IsNamedBad, IsOfDump}
 use Rattle.vrepl_vdiff.specs.Shown.{PrintsShown}
-use Rattle.vrepl_vdiff.specs.Told.{IsTold, NamesBad, RefusesShown, error_of}
+use Rattle.vrepl_vdiff.specs.Told.{IsTold, NamesBad, RefusesShown, place_of}
 use Rattle.vrepl_vdiff.specs.ToldValue.{IsToldOf}
 use Rattle.vrepl_vdiff.specs.declared.told.Told.{Told}
 use Rattle.vrepl_vdiff.specs.declared.inputs.VdiffInputs.{VdiffInputs}
@@ -46,7 +46,7 @@ workflow_names (errors.KeyType table column) inputs = tt
 workflow_names (errors.BadRule stream rule) inputs = tt
 workflow_names (errors.ColumnsDiffer table) inputs = tt
 
-workflow_error : (form : ReportForm) (fault : PlanFault) → error_of form (refusal_of_workflow fault) [] ≡ []
+workflow_error : (form : ReportForm) (fault : PlanFault) → place_of form (refusal_of_workflow fault) [] ≡ None
 workflow_error Json errors.Memory = refl
 workflow_error Json errors.Json = refl
 workflow_error Json errors.Shape = refl
@@ -57,87 +57,87 @@ workflow_error Json (errors.BadRule stream rule) = refl
 workflow_error Json (errors.ColumnsDiffer table) = refl
 workflow_error Lines fault = refl
 
-pub told_workflow : (inputs : VdiffInputs) (fault : PlanFault) (now : Written) (error : List ℕ) → error ≡ [] → plans.Fails {Y = List PlanValue} fault (plans_of inputs.workflow.items) → IsTold inputs (refusal_of_workflow fault) error now now
-told_workflow inputs fault now error none is = record {
+pub told_workflow : (inputs : VdiffInputs) (fault : PlanFault) (now : Written) (place : Option (List ℕ)) → place ≡ None → plans.Fails {Y = List PlanValue} fault (plans_of inputs.workflow.items) → IsTold inputs (refusal_of_workflow fault) place now now
+told_workflow inputs fault now place none is = record {
   refuses = refuses_workflow fault inputs now is;
   name = [];
   names = workflow_names fault inputs;
-  is_error = none ∙ sym (workflow_error inputs.options.report_form fault);
+  is_place = none ∙ sym (workflow_error inputs.options.report_form fault);
 }
 
 module _ (inputs : VdiffInputs) (plan : PlanValue) (others : List PlanValue) (is : plans_of inputs.workflow.items ≡ Ok (plan ∷ others)) (now : Written) where
   -- the source's bad line
-  pub told_source : (refusal : CommandRefusal) (error : List ℕ) → IsOfDump plan inputs.source.text refusal → error ≡ error_of inputs.options.report_form refusal inputs.source.name → IsTold inputs refusal error now now
-  told_source Memory error bad same = record { refuses = refl; name = inputs.source.name; names = tt; is_error = same }
-  told_source (BadDump line) error bad same = record {
+  pub told_source : (refusal : CommandRefusal) (place : Option (List ℕ)) → IsOfDump plan inputs.source.text refusal → place ≡ place_of inputs.options.report_form refusal inputs.source.name → IsTold inputs refusal place now now
+  told_source Memory place bad same = record { refuses = refl; name = inputs.source.name; names = tt; is_place = same }
+  told_source (BadDump line) place bad same = record {
     refuses = (Err (bad_dump line), record { plan = plan; others = others; plans = is; bad = inl bad }, (refl, refl));
     name = inputs.source.name;
     names = record { plan = plan; others = others; plans = is; bad = inl (refl, bad) };
-    is_error = same;
+    is_place = same;
   }
-  told_source (Workflow fault) error bad same = absurd bad
-  told_source NoStream error bad same = absurd bad
-  told_source (Changed file) error bad same = absurd bad
-  told_source FeedCount error bad same = absurd bad
-  told_source (NotReached stream) error bad same = absurd bad
-  told_source (Feed fault) error bad same = absurd bad
-  told_source BadHex error bad same = absurd bad
-  told_source (BadScript line) error bad same = absurd bad
-  told_source (CannotRead file) error bad same = absurd bad
-  told_source (CannotWrite file) error bad same = absurd bad
+  told_source (Workflow fault) place bad same = absurd bad
+  told_source NoStream place bad same = absurd bad
+  told_source (Changed file) place bad same = absurd bad
+  told_source FeedCount place bad same = absurd bad
+  told_source (NotReached stream) place bad same = absurd bad
+  told_source (Feed fault) place bad same = absurd bad
+  told_source BadHex place bad same = absurd bad
+  told_source (BadScript line) place bad same = absurd bad
+  told_source (CannotRead file) place bad same = absurd bad
+  told_source (CannotWrite file) place bad same = absurd bad
 
   -- the target's, behind a dump of the source
-  pub told_target : (rows : DumpRowsValue) (refusal : CommandRefusal) (error : List ℕ) → IsDumpReading plan inputs.source.text (Ok rows) → IsOfDump plan inputs.target.text refusal → error ≡ error_of inputs.options.report_form refusal inputs.target.name → IsTold inputs refusal error now now
-  told_target rows Memory error read bad same = record { refuses = refl; name = inputs.target.name; names = tt; is_error = same }
-  told_target rows (BadDump line) error read bad same = record {
+  pub told_target : (rows : DumpRowsValue) (refusal : CommandRefusal) (place : Option (List ℕ)) → IsDumpReading plan inputs.source.text (Ok rows) → IsOfDump plan inputs.target.text refusal → place ≡ place_of inputs.options.report_form refusal inputs.target.name → IsTold inputs refusal place now now
+  told_target rows Memory place read bad same = record { refuses = refl; name = inputs.target.name; names = tt; is_place = same }
+  told_target rows (BadDump line) place read bad same = record {
     refuses = (Err (bad_dump line), record { plan = plan; others = others; plans = is; bad = inr (rows, read, bad) }, (refl, refl));
     name = inputs.target.name;
     names = record { plan = plan; others = others; plans = is; bad = inr (refl, (rows, read, bad)) };
-    is_error = same;
+    is_place = same;
   }
-  told_target rows (Workflow fault) error read bad same = absurd bad
-  told_target rows NoStream error read bad same = absurd bad
-  told_target rows (Changed file) error read bad same = absurd bad
-  told_target rows FeedCount error read bad same = absurd bad
-  told_target rows (NotReached stream) error read bad same = absurd bad
-  told_target rows (Feed fault) error read bad same = absurd bad
-  told_target rows BadHex error read bad same = absurd bad
-  told_target rows (BadScript line) error read bad same = absurd bad
-  told_target rows (CannotRead file) error read bad same = absurd bad
-  told_target rows (CannotWrite file) error read bad same = absurd bad
+  told_target rows (Workflow fault) place read bad same = absurd bad
+  told_target rows NoStream place read bad same = absurd bad
+  told_target rows (Changed file) place read bad same = absurd bad
+  told_target rows FeedCount place read bad same = absurd bad
+  told_target rows (NotReached stream) place read bad same = absurd bad
+  told_target rows (Feed fault) place read bad same = absurd bad
+  told_target rows BadHex place read bad same = absurd bad
+  told_target rows (BadScript line) place read bad same = absurd bad
+  told_target rows (CannotRead file) place read bad same = absurd bad
+  told_target rows (CannotWrite file) place read bad same = absurd bad
 
 -- memory ran out, or it can't be written
-pub told_shown : (inputs : VdiffInputs) (compared : Compared) (refusal : CommandRefusal) (error : List ℕ) (old new : Written) → AreDumps inputs.workflow.items inputs.source.text inputs.target.text compared
-    → PrintsShown {X = ℕ} inputs.options (Err refusal) compared old new → error ≡ [] → IsTold inputs refusal error old new
-told_shown inputs compared Memory error old new dumps printed none = record { refuses = printed; name = []; names = tt; is_error = none ∙ sym (by inputs.options.report_form) }
+pub told_shown : (inputs : VdiffInputs) (compared : Compared) (refusal : CommandRefusal) (place : Option (List ℕ)) (old new : Written) → AreDumps inputs.workflow.items inputs.source.text inputs.target.text compared
+    → PrintsShown {X = ℕ} inputs.options (Err refusal) compared old new → place ≡ None → IsTold inputs refusal place old new
+told_shown inputs compared Memory place old new dumps printed none = record { refuses = printed; name = []; names = tt; is_place = none ∙ sym (by inputs.options.report_form) }
   where
-    by : (form : ReportForm) → error_of form Memory [] ≡ []
+    by : (form : ReportForm) → place_of form Memory [] ≡ None
     by Lines = refl
     by Json = refl
-told_shown inputs compared (CannotWrite file) error old new dumps (is, text, shown, broken) none = record {
+told_shown inputs compared (CannotWrite file) place old new dumps (is, text, shown, broken) none = record {
   refuses = (Ok compared, dumps, (is, (text, shown, broken)));
   name = [];
   names = tt;
-  is_error = none ∙ sym (by inputs.options.report_form);
+  is_place = none ∙ sym (by inputs.options.report_form);
 }
   where
-    by : (form : ReportForm) → error_of form (CannotWrite file) [] ≡ []
+    by : (form : ReportForm) → place_of form (CannotWrite file) [] ≡ None
     by Lines = refl
     by Json = refl
-told_shown inputs compared (Workflow fault) error old new dumps printed none = absurd printed.0
-told_shown inputs compared NoStream error old new dumps printed none = absurd printed.0
-told_shown inputs compared (Changed file) error old new dumps printed none = absurd printed.0
-told_shown inputs compared FeedCount error old new dumps printed none = absurd printed.0
-told_shown inputs compared (NotReached stream) error old new dumps printed none = absurd printed.0
-told_shown inputs compared (Feed fault) error old new dumps printed none = absurd printed.0
-told_shown inputs compared BadHex error old new dumps printed none = absurd printed.0
-told_shown inputs compared (BadScript line) error old new dumps printed none = absurd printed.0
-told_shown inputs compared (BadDump line) error old new dumps printed none = absurd printed.0
-told_shown inputs compared (CannotRead file) error old new dumps printed none = absurd printed.0
+told_shown inputs compared (Workflow fault) place old new dumps printed none = absurd printed.0
+told_shown inputs compared NoStream place old new dumps printed none = absurd printed.0
+told_shown inputs compared (Changed file) place old new dumps printed none = absurd printed.0
+told_shown inputs compared FeedCount place old new dumps printed none = absurd printed.0
+told_shown inputs compared (NotReached stream) place old new dumps printed none = absurd printed.0
+told_shown inputs compared (Feed fault) place old new dumps printed none = absurd printed.0
+told_shown inputs compared BadHex place old new dumps printed none = absurd printed.0
+told_shown inputs compared (BadScript line) place old new dumps printed none = absurd printed.0
+told_shown inputs compared (BadDump line) place old new dumps printed none = absurd printed.0
+told_shown inputs compared (CannotRead file) place old new dumps printed none = absurd printed.0
 
 -- ---- a dump's fault
 
-no_error : (form : ReportForm) (name : List ℕ) → error_of form Memory name ≡ []
+no_error : (form : ReportForm) (name : List ℕ) → place_of form Memory name ≡ None
 no_error Lines name = refl
 no_error Json name = refl
 
@@ -147,5 +147,5 @@ of_dump plan text (faults.BadDump n) bad = bad n refl
 
 pub named_bad : {X : Type 0} (form : ReportForm) (plan : PlanValue) (dump : NamedDump) (fault : DumpFault) (told : Told) → IsToldOf form dump.name fault told
     → ((n : ℕ) → ◌≡◌ {A = Result X DumpFault} (Err fault) (Err (faults.BadDump n)) → IsFirstBad plan dump.text n) → IsNamedBad form plan dump told
-named_bad {X} form plan dump fault told (inl (is, error)) bad = (subst (IsOfDump plan dump.text) (sym is) (of_dump {X = X} plan dump.text fault bad), error)
-named_bad form plan dump fault told (inr (is, none)) bad = (subst (IsOfDump plan dump.text) (sym is) tt, none ∙ sym (ap (λ (r : CommandRefusal). error_of form r dump.name) is ∙ no_error form dump.name))
+named_bad {X} form plan dump fault told (inl (is, place)) bad = (subst (IsOfDump plan dump.text) (sym is) (of_dump {X = X} plan dump.text fault bad), place)
+named_bad form plan dump fault told (inr (is, none)) bad = (subst (IsOfDump plan dump.text) (sym is) tt, none ∙ sym (ap (λ (r : CommandRefusal). place_of form r dump.name) is ∙ no_error form dump.name))

@@ -6,8 +6,8 @@ use Rattle.vrepl_choices.specs.declared.report_form.ReportForm.{ReportForm}
 use Rattle.vrepl_main.specs.declared.refusal.CommandRefusal.{CommandRefusal}
 use Rattle.vrepl_main.specs.declared.refusal.CommandRefusal.TheVariants.{Memory, BadDump}
 use Rattle.vrepl_vdiff.specs.NamedDump.{NamedDump}
-use Rattle.vrepl_vdiff.specs.Told.{error_of}
-use Rattle.vrepl_vdiff.specs.ToldValue.{error_text}
+use Rattle.vrepl_vdiff.specs.Told.{place_of}
+use Rattle.vrepl_vdiff.specs.ToldValue.{place_value}
 use Rattle.vrepl_vdiff.specs.declared.told.Told.{Told}
 
 -- the refusal is of memory, or of the dump's first bad line
@@ -16,6 +16,6 @@ IsOfDump plan text Memory = Unit {0}
 IsOfDump plan text (BadDump line) = IsFirstBad plan text line
 IsOfDump plan text refusal = ⊥
 
--- and the line behind it names the dump
+-- and its place names the dump
 abbrev pub IsNamedBad : ReportForm → PlanValue → NamedDump → Told → Type 0
-IsNamedBad form plan dump told = IsOfDump plan dump.text told.refusal × (error_text told.error ≡ error_of form told.refusal dump.name)
+IsNamedBad form plan dump told = IsOfDump plan dump.text told.refusal × (place_value told.place ≡ place_of form told.refusal dump.name)

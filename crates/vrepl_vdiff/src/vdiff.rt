@@ -4,7 +4,7 @@ ghost use Rattle.std.specs.Prelude.{◌≡◌, ◌≢◌, IfErr, IfOk};
 ghost use Rattle.std.specs.List.{AllByRecursion};
 ghost use Rattle.vrepl_vdiff.specs.Shown.{IsShownAs};
 ghost use Rattle.vrepl_vdiff.specs.Told.{IsTold, ShownEnds};
-ghost use Rattle.vrepl_vdiff.specs.ToldValue.{error_text};
+ghost use Rattle.vrepl_vdiff.specs.ToldValue.{place_value};
 ghost use Rattle.vrepl_vdiff.specs.Reading.{IsNamedBad};
 ghost use Rattle.vdiff_core.specs.DumpReading.{FitsPlan, IsDump};
 
@@ -19,8 +19,8 @@ use vrepl_main::Verdict;
 
 /// Compares two dumps of a workflow's tables as `vdiff` does, and prints on `out` what its options show: the line of each
 /// table above the five counts, and the first differences below them, or all of it as one object of JSON; or it prints the
-/// line of a refusal on `err`, and with JSON behind that of a bad dump an object that names it. Faults are found in the
-/// same order, and the status is the same.
+/// line of a refusal on `err`, as JSON too where that is asked for, and then with the bad dump's name. Faults are found in
+/// the same order, and the status is the same.
 pub fn vdiff_with<W: Out, E: Out>(
     alloc: Global,
     inputs: &VdiffInputs<'_>,
@@ -33,14 +33,14 @@ pub fn vdiff_with<W: Out, E: Out>(
     match show_vdiff(alloc, inputs, out) {
         Ok(Verdict::Same) => 0,
         Ok(Verdict::Differ) => 3,
-        Err(told) => refuse_told(err, &told),
+        Err(told) => refuse_told(inputs.options.report_form, err, &told),
     }
 }
 
 /// Prints what is shown of two dumps, or nothing where one of the files is refused.
 fn show_vdiff<W: Out>(alloc: Global, inputs: &VdiffInputs<'_>, out: &mut W) -> Result<Verdict, Told>
     ensures shown { IfOk result (λ verdict. IsShownAs inputs.now verdict (W.written out.old) (W.written out.new)) }
-    ensures refused { IfErr result (λ told. IsTold inputs.now told.refusal (error_text told.error) (W.written out.old) (W.written out.new)) }
+    ensures refused { IfErr result (λ told. IsTold inputs.now told.refusal (place_value told.place) (W.written out.old) (W.written out.new)) }
 {
     let plans = match Plan::read_all(alloc, &inputs.workflow) {
         Ok(plans) => plans,

@@ -1,10 +1,11 @@
 -- What the words that were read ask for.
-use Rattle.vrepl_words.specs.Words.{CheckValue, FollowValue, JoinValue, PortionsValue, ResumeValue, RunValue, SaveValue, ShowValue, StatusValue, StepValue, TilesValue, VdiffValue, WordsValue, asks_follow, asks_join, asks_run, asks_show, asks_step, asks_save, asks_resume, asks_vdiff, asks_check, asks_tiles, asks_status, asks_explain, CompactValue, asks_compact, TranscribeValue, asks_transcribe, FeedValue, asks_feed}
+use Rattle.vrepl_words.specs.Words.{CheckValue, ExplainValue, FollowValue, JoinValue, PortionsValue, ResumeValue, RunValue, SaveValue, ShowValue, StatusValue, StepValue, TilesValue, VdiffValue, WordsValue, asks_follow, asks_join, asks_run, asks_show, asks_step, asks_save, asks_resume, asks_vdiff, asks_check, asks_tiles, asks_status, asks_explain, CompactValue, asks_compact, TranscribeValue, asks_transcribe, FeedValue, asks_feed}
 use Rattle.std.specs.Prelude.{◌≡◌, map, option_map, Option, None, Some, Result, Ok, Err}
 use Rattle.vrepl_choices.specs.UntilValue.{until_value}
 use Rattle.vrepl_words.specs.declared.portions.Portions.{Portions}
 use Rattle.vrepl_words.specs.declared.words.Check.{Check}
 use Rattle.vrepl_words.specs.declared.words.Compact.{Compact}
+use Rattle.vrepl_words.specs.declared.words.Explain.{Explain}
 use Rattle.vrepl_words.specs.declared.words.Feed.{Feed}
 use Rattle.vrepl_words.specs.declared.words.Follow.{Follow}
 use Rattle.vrepl_words.specs.declared.words.Join.{Join}
@@ -121,6 +122,9 @@ vdiff_value files = record {
   target = files.target.now;
 }
 
+abbrev pub explain_value : Explain → ExplainValue
+explain_value explain = record { report_form = explain.report_form; number = explain.number }
+
 -- what was read of the words, as a plain value
 abbrev pub value_of_words : Words → WordsValue
 value_of_words (words.Show show) = asks_show (show_value show)
@@ -137,7 +141,7 @@ value_of_words (words.Status status) = asks_status (status_value status)
 value_of_words (words.Compact compact) = asks_compact (compact_value compact)
 value_of_words (words.Transcribe transcribe) = asks_transcribe (transcribe_value transcribe)
 value_of_words (words.Feed feed) = asks_feed (feed_value feed)
-value_of_words (words.Explain number) = asks_explain number
+value_of_words (words.Explain explain) = asks_explain (explain_value explain)
 
 -- what was met asks for this, if for anything, unless a fault kept it from being read
 abbrev pub Asks : {E : Type 0} → Option (Result Words E) → Option WordsValue → Type 0

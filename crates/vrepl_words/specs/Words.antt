@@ -139,6 +139,11 @@ pub record VdiffValue : Type 0 where
   pub source : Text
   pub target : Text
 
+-- `explain`: how it is printed, and a refusal's number, or none for all of them
+pub record ExplainValue : Type 0 where
+  pub report_form : ReportForm
+  pub number : Option ℕ
+
 -- what words ask for
 pub data WordsValue : Type 0 where
   asks_show : ShowValue → WordsValue
@@ -155,8 +160,7 @@ pub data WordsValue : Type 0 where
   asks_compact : CompactValue → WordsValue
   asks_transcribe : TranscribeValue → WordsValue
   asks_feed : FeedValue → WordsValue
-  -- what a refusal's number means, or all of them
-  asks_explain : Option ℕ → WordsValue
+  asks_explain : ExplainValue → WordsValue
 
 -- a subcommand: its name, its arguments in their order, and what it asks for, by what is given to them; nothing
 -- where a number that is given is out of its range
@@ -409,12 +413,16 @@ feed_subcommand = record {
   meaning = λ given. option_map (λ stream. asks_feed (feed_given given stream)) (stream_given (codes "stream") given);
 }
 
--- `explain [NUMBER]`
+-- what is given to the arguments of `explain`
+abbrev pub explain_given : List Row → Option ℕ → ExplainValue
+explain_given given number = record { report_form = report_form_given given; number = number }
+
+-- `explain [--json] [NUMBER]`
 abbrev pub explain_subcommand : Subcommand
 explain_subcommand = record {
   name = codes "explain";
-  rules = optional_rule (codes "number") ∷ [];
-  meaning = λ given. option_map asks_explain (refusal_given (codes "number") given);
+  rules = flag_rule (codes "json") ∷ optional_rule (codes "number") ∷ [];
+  meaning = λ given. option_map (λ number. asks_explain (explain_given given number)) (refusal_given (codes "number") given);
 }
 
 -- the subcommands, in the order of the help

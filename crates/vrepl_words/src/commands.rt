@@ -298,8 +298,10 @@ pub(crate) fn explain_command<'w>(alloc: Global) -> Result<Command<'w>, AllocErr
     ensures { IfOk result (IsSubcommand explain_subcommand) }
 {
     let about = "Says what a refusal's number means, and what to do next";
+    let json_help = "Prints a JSON object a line, one a number";
     let number_help = "The number of a line `refused NUMBER`; all of them unless given";
     let command = Ok(bare(alloc, "explain", about, help::EXPLAIN));
+    let command = with_arg(command, flag(alloc, "json", json_help));
     with_arg(command, optional(alloc, "number", "NUMBER", number_help))
 }
 

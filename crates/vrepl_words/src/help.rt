@@ -7,8 +7,9 @@ pub(crate) const VERSION: &str = "0.1.0";
 pub(crate) const STATUSES: &str = "\
 Status:
   0  what was asked for was printed
-  1  a line `refused NUMBER` on standard error; `vrepl explain NUMBER` says what
-     the number means, what the usual causes are, and what to do next
+  1  a line `refused NUMBER` on standard error, or with --json an object on a
+     line; `vrepl explain NUMBER` says what the number means, what the usual
+     causes are, and what to do next
   2  a fault of usage
   3  `vdiff` found a difference, or `check` or `tiles` something to warn of";
 
@@ -284,6 +285,8 @@ Example:
   What to do: give one feed a stream, in the order of the workflow's streams.
 
 A number that stands behind the word `cause` in a line is explained as well.
+With --json it is one object on one line, with the members `refused`, `text`,
+`means`, `causes` and `do`; without a number an object a line for each.
 
 Status:
   0  the text was printed

@@ -3,8 +3,8 @@
 ghost use Rattle.std.specs.Prelude.{◌≡◌, ◌≢◌, [], IfOk, Some, map, string_bytes};
 ghost use Rattle.clap.specs.Words.{FailsBy, found_of, rows_of, subcommand_rows_of};
 ghost use Rattle.vrepl_words.specs.Built.{HasApp};
-ghost use Rattle.vrepl_words.specs.Meant.{Asks, follow_value, portions_value, run_value, show_value, step_value, value_of_words, vdiff_value, compact_value, feed_value};
-ghost use Rattle.vrepl_words.specs.Words.{asked_by, asks_check, asks_join, asks_follow, asks_resume, asks_run, asks_save, asks_status, asks_step, asks_tiles, check_given, explain_subcommand, faults_of, follow_given, follow_subcommand, join_given, program_app, resume_given, run_given, run_subcommand, save_given, show_given, status_given, step_given, tiles_given, vdiff_given, vdiff_subcommand, words_of, asks_compact, compact_given, compact_subcommand, asks_transcribe, transcribe_given, feed_given, feed_subcommand};
+ghost use Rattle.vrepl_words.specs.Meant.{Asks, explain_value, follow_value, portions_value, run_value, show_value, step_value, value_of_words, vdiff_value, compact_value, feed_value};
+ghost use Rattle.vrepl_words.specs.Words.{asked_by, asks_check, asks_join, asks_follow, asks_resume, asks_run, asks_save, asks_status, asks_step, asks_tiles, check_given, explain_given, explain_subcommand, faults_of, follow_given, follow_subcommand, join_given, program_app, resume_given, run_given, run_subcommand, save_given, show_given, status_given, step_given, tiles_given, vdiff_given, vdiff_subcommand, words_of, asks_compact, compact_given, compact_subcommand, asks_transcribe, transcribe_given, feed_given, feed_subcommand};
 
 use crate::choices::{feed_form_given, report_form_given, telling_given, threading_given};
 use crate::commands::program;
@@ -14,8 +14,8 @@ use crate::portions::Portions;
 use crate::streams::{gives_streams, stream_given, streams_given};
 use crate::untils::{gives_untils, untils_given};
 use crate::words::{
-    Check, Compact, Feed, Follow, Join, Resume, Run, Save, Show, Status, Step, Tiles, Transcribe,
-    Vdiff, Words,
+    Check, Compact, Explain, Feed, Follow, Join, Resume, Run, Save, Show, Status, Step, Tiles,
+    Transcribe, Vdiff, Words,
 };
 use clap::{ArgMatches, Command, Error};
 use std::alloc::{AllocError, Global};
@@ -343,7 +343,17 @@ fn explain_words<'w>(given: &ArgMatches<'w>) -> Option<Result<Words<'w>, AllocEr
     ensures { Asks result (explain_subcommand.meaning (rows_of (found_of given.now))) }
 {
     let number = refusal_given(given, "number")?;
-    Some(Ok(Words::Explain(number)))
+    Some(Ok(Words::Explain(explain_of(given, number))))
+}
+
+/// What is given to `explain`, with this number, if there is one.
+fn explain_of(given: &ArgMatches<'_>, number: Option<u64>) -> Explain
+    ensures { explain_value result ≡ explain_given (rows_of (found_of given.now)) number }
+{
+    Explain {
+        report_form: report_form_given(given),
+        number,
+    }
 }
 
 /// None where the number of differences that was given is none.

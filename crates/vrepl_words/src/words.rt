@@ -35,7 +35,16 @@ pub enum Words<'w> {
     /// `status`: say where the streams of checkpoints stand.
     Status(Status<'w>),
     /// `explain`: print what is said of a refusal's number, or the list of all.
-    Explain(Option<u64>),
+    Explain(Explain),
+}
+
+/// The words of `explain`.
+#[derive(Clone, Copy)]
+pub struct Explain {
+    /// How it is printed.
+    pub report_form: ReportForm,
+    /// The number of a refusal; all of them unless given.
+    pub number: Option<u64>,
 }
 
 /// Whether a command tells on its way, on standard error, how far it is.

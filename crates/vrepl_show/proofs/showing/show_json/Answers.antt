@@ -6,7 +6,7 @@ pub returns-in-Ok-clause-ends : goal.returns-in-Ok-clause-ends
 returns-in-Ok-clause-ends g c = ends_printed _ _ _ c.in-Ok.ensures
 
 pub returns-in-Err-clause-ends : goal.returns-in-Err-clause-ends
-returns-in-Err-clause-ends g c = ends_refused _ _ _ _ c.refuse.ensures.status (c.in-Err.refusal, c.in-Err.ensures, c.refuse.ensures.line)
+returns-in-Err-clause-ends g c = ends_refused _ _ _ _ c.refuse_json.ensures.status (c.in-Err.refusal, c.in-Err.ensures, c.refuse_json.ensures.line)
 
 pub returns-in-Ok-clause-quiet : goal.returns-in-Ok-clause-quiet
 returns-in-Ok-clause-quiet g c = search rules

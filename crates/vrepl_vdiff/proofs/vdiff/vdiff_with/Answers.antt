@@ -1,5 +1,5 @@
 use Rattle.vrepl_main.proofs.CommandLaws.{ends_found, ends_printed, ends_refused}
-use Rattle.vrepl_vdiff.specs.ToldValue.{error_text}
+use Rattle.vrepl_vdiff.specs.ToldValue.{place_value}
 use Rattle.vrepl_vdiff.proofs.vdiff.vdiff_with.Goals as goal
 
 pub returns-in-Ok-Same-clause-ends : goal.returns-in-Ok-Same-clause-ends
@@ -11,9 +11,7 @@ returns-in-Ok-Differ-clause-ends g c = ends_found _ _ _ (rw c.in-Ok-Differ.field
 pub returns-in-Err-clause-ends : goal.returns-in-Err-clause-ends
 returns-in-Err-clause-ends g c = ends_refused _ _ _ _ c.refuse_told.ensures.status (record {
   refusal = c.in-Err.told.refusal;
-  error = error_text c.in-Err.told.error;
+  place = place_value c.in-Err.told.place;
   told = c.in-Err.ensures.refused;
-  between = c.refuse_told.ensures.lines.0;
-  line = c.refuse_told.ensures.lines.1;
-  behind = c.refuse_told.ensures.lines.2;
+  line = c.refuse_told.ensures.line;
 })

@@ -1,0 +1,4 @@
+pub mod Details
+pub mod Explained
+pub mod Private
+pub mod Refusal
