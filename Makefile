@@ -2,11 +2,12 @@
 # make uninstall [PREFIX=/usr/local] [DESTDIR=]   takes them away again
 # make install-library, make uninstall-library    the same for the header and the library of ./release --library
 #
-# The program is the one in dist/, or what ./build made where a source was changed; nothing is built here.
+# The program is the one in dist/, or what ./build made where a source was changed; nothing is built here. It lies in
+# lib/vrepl/vrepl, and bin/vrepl, a script, starts it with large pages (share/vrepl).
 PREFIX = /usr/local
 DESTDIR =
 LIBDIR = lib
-PLACES = bin/vrepl share/man/man1/vrepl.1 share/bash-completion/completions/vrepl share/zsh/site-functions/_vrepl share/doc/vrepl/LICENSE share/doc/vrepl/SOURCES
+PLACES = bin/vrepl lib/vrepl/vrepl share/man/man1/vrepl.1 share/bash-completion/completions/vrepl share/zsh/site-functions/_vrepl share/doc/vrepl/LICENSE share/doc/vrepl/SOURCES
 
 all:
 	@sed -n '/^#/!q; s/^# \{0,1\}//p' Makefile
@@ -18,7 +19,8 @@ install:
 	    place='$(DESTDIR)$(PREFIX)'/$$2; \
 	    mkdir -p -- "$${place%/*}"; cp -- "$$1" "$$place.new"; chmod "$$3" -- "$$place.new"; mv -f -- "$$place.new" "$$place"; \
 	}; \
-	put "$$program" bin/vrepl 755; \
+	put "$$program" lib/vrepl/vrepl 755; \
+	put share/vrepl bin/vrepl 755; \
 	for page in $(filter share/man/% share/bash% share/zsh%,$(PLACES)); do put "$$page" "$$page" 644; done; \
 	put LICENSE share/doc/vrepl/LICENSE 644; \
 	case $$program in dist/*) put dist/SOURCES share/doc/vrepl/SOURCES 644 ;; *) put "$$program.sources" share/doc/vrepl/SOURCES 644 ;; esac; \
@@ -26,7 +28,7 @@ install:
 
 uninstall:
 	@set -e; for place in $(PLACES); do rm -f -- '$(DESTDIR)$(PREFIX)'/"$$place"; done; \
-	[ ! -d '$(DESTDIR)$(PREFIX)/share/doc/vrepl' ] || rmdir -- '$(DESTDIR)$(PREFIX)/share/doc/vrepl'
+	for folder in share/doc/vrepl lib/vrepl; do [ ! -d '$(DESTDIR)$(PREFIX)'/"$$folder" ] || rmdir -- '$(DESTDIR)$(PREFIX)'/"$$folder"; done
 
 install-library:
 	@set -e; umask 022; \

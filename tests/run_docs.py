@@ -3,9 +3,9 @@
 
 usage: tests/run_docs.py
 
-docs/MAP.md names every source file of every crate under the crate's heading, docs/DEFINITIONS.md every
-file of definitions that public contracts cite and in each row what its file has, docs/PROMISES.md every must-fail edit, and no file or edit
-that isn't there. A path that a document names is there, and so is the chapter of a page that a file names behind the
+docs/MAP.md has a line for every crate, which names what is there, and every file of the crates says in its head what it
+has (scripts/heads). docs/DEFINITIONS.md has in each row what its file has, docs/PROMISES.md every must-fail edit, and no file or
+edit that isn't there. A path that a document names is there, and so is the chapter of a page that a file names behind the
 page. Crates of tests and private definitions have no rows. A clause that README.md or docs/PROMISES.md names of a call (`call`: `clause`) is one of that call's
 contract, and what docs/PROMISES.md names in a table as a contract is a function or a type of the crates. Every
 number of docs/FORMATS.md has a text of `vrepl explain`, and no other has one. A list of docs/MAP.md of what a further
@@ -13,8 +13,8 @@ vindex, event and so on gets has the files that the command over it finds, and n
 scripts/pages makes of the program in dist/, which is looked at where that is of these sources. What a CALLING.md quotes is
 what scripts/contracts makes of its crate's sources, docs/THEOREM.md is what scripts/theorem makes of them. The figures of
 docs/ and bench/ are those of bench/figures.json, into which a run's can be put, and the change that CONTRIBUTING.md tells of
-can be made. The last line is 'N passed, M failed': one a document, one for the paths, the chapters, the lists, the texts,
-the pages, the quotations, the figures and the change.
+can be made. What starts the program asks for large pages in the same words everywhere. The last line is 'N passed, M failed': one a
+document, one for the paths, the chapters, the lists, the texts, the pages, the quotations, the figures, these words and the change.
 """
 import contextlib
 import functools
@@ -53,52 +53,67 @@ def files_below(crate, part, ending):
     return {it for it in found if not it.startswith("Private") and it not in ("lib.rt", "Lib.antt")}
 
 
-def sections(page):
-    """The text under each heading of a page, by the crate that the heading names."""
-    found, name = {}, None
-    for line in text_of("docs", page).splitlines():
-        heading = re.fullmatch(r"## (\w+).*", line)
-        if heading or line.startswith("## "):
-            name = heading and heading[1]
-        found[name] = found.get(name, "") + line + "\n"
-    return found
-
-
 def map_faults():
-    found = sections("MAP.md")
-    for crate in crates():
-        text = found.get(crate, "")
-        rows = "".join(line for line in text.splitlines(True) if line.startswith("|"))
-        said, listed = (set(re.findall(r"src/([\w/]+\.rt)", it)) for it in (text, rows))
-        there = files_below(crate, "src", ".rt")
-        yield from (f"{crate}/src/{it} isn't named" for it in sorted(there - said))
-        yield from (f"{crate}/src/{it} isn't there" for it in sorted(listed - there))
+    """Each crate has its line in docs/MAP.md, what a line names is there, and each file says what it has."""
+    words = {word for path, text in tree().items() if path.startswith("crates/") for word in re.findall(r"\w+", text)}
+    said = set()
+    for line in text_of("docs", "MAP.md").splitlines():
+        head = re.match(r"- ((?:\*\*\w+\*\*(?:, )?)+): ", line)
+        if head:
+            named = re.findall(r"\w+", head[1])
+            said.update(named)
+            below = {it for it in re.findall(r"\w+", line) if os.path.isdir(os.path.join(CRATES, it))}
+            yield from (f"{named[0]}: {it} isn't there" for it in re.findall(r"(?<![\w/])(?:src|specs|proofs)/[\w/]+\.\w+", line) if not any(os.path.exists(os.path.join(CRATES, crate, it)) for crate in below))
+            yield from (f"{named[0]}: nothing is called {it}" for it in re.findall(r"`([\w:]+)`", line) if not set(it.split("::")) <= words)
+    yield from (f"{it} isn't named" for it in sorted(set(crates()) - said))
+    yield from (f"there is no crate {it}" for it in sorted(said - set(crates())))
+    yield from said_by("scripts/heads")
 
 
 def definition_faults():
-    found = sections("DEFINITIONS.md")
-    for crate in crates():
-        said = set(re.findall(r"(?<![\w/])([\w/]+\.antt)", found.get(crate, "")))
-        there = files_below(crate, "specs", ".antt")
-        yield from (f"{crate}/specs/{it} isn't named" for it in sorted(there - said))
-        yield from (f"{crate}/specs/{it} isn't there" for it in sorted(said - there) if not os.path.exists(os.path.join(CRATES, crate, "specs", it)))
-        for line in found.get(crate, "").splitlines():
-            first, second = (line.split("|") + ["", ""])[1:3] if line.startswith("| `") else ("", "")
-            texts = "".join(text_of(CRATES, crate, "specs", it) for it in re.findall(r"[\w/]+\.antt", second) if it in there)
-            yield from (f"{crate}: {it} isn't in {second.strip()}" for it in re.findall(r"`([^`]+)`", first) if not re.search(rf"(?<!\w){re.escape(it)}(?!\w)", texts))
+    """What a row of docs/DEFINITIONS.md names is in the files that it names: CRATE/FILE, and behind that FILE of the same crate."""
+    told = set()
+    for line in text_of("docs", "DEFINITIONS.md").splitlines():
+        if line.startswith("| `"):
+            names, places = (re.findall(r"`([^`]+)`|([\w/]+)", it) for it in line.split("|")[1:3])
+            crate, texts = None, []
+            for place in (it[1] for it in places):
+                crate, file = place.split("/", 1) if "/" in place else (crate, place)
+                path = os.path.join(CRATES, crate or "", "specs", f"{file}.antt")
+                if os.path.exists(path):
+                    texts.append(text_of(path))
+                else:
+                    yield f"crates/{crate}/specs/{file}.antt isn't there"
+                told.add(crate)
+            text = "".join(texts)
+            yield from (f"{line.split('|')[2].strip()} has no {it[0]}" for it in names if not re.search(rf"(?<!\w){re.escape(it[0])}(?!\w)", text))
+    yield from (f"{it} has no row" for it in sorted(set(crates()) - told) if any("Private" not in at and "Laws" not in at for at in files_below(it, "specs", ".antt")))
+
+
+def promises():
+    """The rows of docs/PROMISES.md: its line, the crate, and the cells of promise, contract and edits."""
+    crate = None
+    for number, line in enumerate(text_of("docs", "PROMISES.md").splitlines(), 1):
+        cells = [it.strip() for it in re.split(r"(?<!\\)\|", line)[1:-1]]
+        if len(cells) == 4 and cells[0] != "Crate" and not set(cells[0]) == {"-"}:
+            crate = cells[0].strip("*") or crate
+            yield number, crate, cells[1:]
 
 
 def promise_faults():
-    found = sections("PROMISES.md")
+    """Each edit is named in a row of its crate, and what is named there is one of some crate."""
+    there = {}
+    for at, _, names in os.walk(CRATES):
+        if at.endswith("must-fail"):
+            there[os.path.basename(os.path.dirname(at))] = {it.removesuffix(".edit") for it in names}
+    said = {}
+    for number, crate, (promise, contract, edits) in promises():
+        said.setdefault(crate, set()).update(re.findall(r"\w+", edits))
+        if not promise or not contract or crate not in crates():
+            yield f"docs/PROMISES.md:{number}: no promise of a crate with a contract"
     for crate in crates():
-        edits = os.path.join(CRATES, crate, "must-fail")
-        there = {it.removesuffix(".edit") for it in os.listdir(edits)} if os.path.isdir(edits) else set()
-        rows = [line.split("|") for line in found.get(crate, "").splitlines() if line.startswith("|")]
-        said = set(re.findall(r"\w+", " ".join(row[-2] for row in rows if len(row) > 3)))
-        yield from (f"{crate}: the edit {it} isn't named" for it in sorted(there - said))
-        named = {it for it in said if "_" in it and it not in crates()}
-        every = {name.removesuffix(".edit") for at, _, names in os.walk(CRATES) if at.endswith("must-fail") for name in names}
-        yield from (f"{crate}: no edit is called {it}" for it in sorted(named - every))
+        yield from (f"{crate}: the edit {it} isn't named" for it in sorted(there.get(crate, set()) - said.get(crate, set())))
+        yield from (f"{crate}: no edit is called {it}" for it in sorted(said.get(crate, set()) - set().union(*there.values())))
 
 
 def contracts():
@@ -148,8 +163,7 @@ def contract_faults():
             for calls, clauses in CLAUSES.findall(line):
                 calls = [it for it in named_in(calls) if it in known]
                 yield from (f"{page}:{number}: {it} is no clause of {', '.join(calls)}" for it in named_in(clauses) if calls and not any(it in known[one] for one in calls))
-    for number, line in enumerate(text_of("docs", "PROMISES.md").splitlines(), 1):
-        cell = line.split("|")[2] if line.startswith("|") else ""
+    for number, _, (_, cell, _) in promises():
         words = named_in(cell)
         clauses = [it for _, these in CLAUSES.findall(cell) for it in named_in(these)]
         yield from (f"docs/PROMISES.md:{number}: nothing is called {it}" for it in words if it not in known and it not in kinds and it not in clauses)
@@ -178,6 +192,19 @@ def tree():
     return found
 
 
+def whole_paths(cell):
+    """The paths of a cell, whose crates begin with their name, or with a folder of the crate before."""
+    crate, found = None, []
+    for path in cell.split(", "):
+        first, _, rest = path.partition("/")
+        if os.path.isdir(os.path.join(CRATES, first)) and "/" in path:
+            crate, path = first, f"crates/{path}"
+        elif crate and rest and first in ("src", "specs", "proofs", "must-fail"):
+            path = f"crates/{crate}/{path}"
+        found.append(path)
+    return found
+
+
 def further_lists():
     """The lists of docs/MAP.md of what a further one of a kind gets: the kind, the words and the paths of each."""
     kind, found = None, []
@@ -189,7 +216,7 @@ def further_lists():
         elif kind and command:
             found.append((kind, command[1], []))
         elif kind and found and found[-1][0] == kind and line.startswith("| ") and not line.startswith("| File |"):
-            found[-1][2].extend(line.split("|")[1].strip().split(", "))
+            found[-1][2].extend(whole_paths(line.split("|")[1].strip()))
     return found
 
 
@@ -311,6 +338,16 @@ def figure_faults():
             yield "a run's table changes more of the page than its rows"
 
 
+def setting_faults():
+    """Whether all that start the program ask for large pages in the same words."""
+    found = {}
+    for path, text in tree().items():
+        for it in re.findall(r"glibc\.malloc\.hugetlb=[\w.:=]*\w", text):
+            found.setdefault(it, set()).add(path)
+    wanted = max(found, key=lambda it: len(found[it]))
+    yield from (f"{path} has {it}, not {wanted}" for it, paths in found.items() for path in sorted(paths) if it != wanted)
+
+
 def first_change_faults():
     """Whether the change that CONTRIBUTING.md tells of still fits the tree."""
     said = subprocess.run(["git", "apply", "--check", "-C1", "examples/first_change.patch"], cwd=ROOT, capture_output=True, text=True, check=False)
@@ -327,7 +364,7 @@ def is_released():
 
 def main():
     failed = 0
-    checks = {"docs/MAP.md": map_faults, "docs/DEFINITIONS.md": definition_faults, "docs/PROMISES.md": promise_faults, "docs/THEOREM.md": theorem_faults, "contracts": contract_faults, "paths": path_faults, "chapters": chapter_faults, "docs/MAP.md, to add something": further_faults, "explain": explanation_faults, "quotations": quotation_faults, "figures": figure_faults, "examples/first_change.patch": first_change_faults}
+    checks = {"docs/MAP.md": map_faults, "docs/DEFINITIONS.md": definition_faults, "docs/PROMISES.md": promise_faults, "docs/THEOREM.md": theorem_faults, "contracts": contract_faults, "paths": path_faults, "chapters": chapter_faults, "docs/MAP.md, to add something": further_faults, "explain": explanation_faults, "quotations": quotation_faults, "figures": figure_faults, "large pages": setting_faults, "examples/first_change.patch": first_change_faults}
     if is_released():
         checks["pages"] = page_faults
     for name, check in checks.items():

@@ -22,9 +22,9 @@ import zipfile
 
 import run_dist
 
-INSTALLED = ["bin/vrepl", "share/bash-completion/completions/vrepl", "share/doc/vrepl/LICENSE", "share/doc/vrepl/SOURCES", "share/man/man1/vrepl.1", "share/zsh/site-functions/_vrepl"]
+INSTALLED = ["bin/vrepl", "lib/vrepl/vrepl", "share/bash-completion/completions/vrepl", "share/doc/vrepl/LICENSE", "share/doc/vrepl/SOURCES", "share/man/man1/vrepl.1", "share/zsh/site-functions/_vrepl"]
 IN_DEB = [
-    *("usr/bin/vrepl", "usr/share/bash-completion/completions/vrepl", "usr/share/doc/vrepl/SOURCES", "usr/share/doc/vrepl/changelog.gz", "usr/share/doc/vrepl/copyright"),
+    *("usr/bin/vrepl", "usr/lib/vrepl/vrepl", "usr/share/bash-completion/completions/vrepl", "usr/share/doc/vrepl/SOURCES", "usr/share/doc/vrepl/changelog.gz", "usr/share/doc/vrepl/copyright"),
     *("usr/share/lintian/overrides/vrepl", "usr/share/man/man1/vrepl.1.gz", "usr/share/zsh/vendor-completions/_vrepl"),
 ]  # fmt: skip
 CARRIED = os.path.join(run_dist.ROOT, run_dist.CARRIED)
@@ -52,14 +52,39 @@ def given_to(place, user):
 
 
 def is_the_program(path):
-    """What isn't as wanted of an installed program, or nothing."""
-    if not filecmp.cmp(path, CARRIED, shallow=False):
-        return f"{path} isn't the program in dist/"
+    """What isn't as wanted of an installed program, which a script starts at a path, by a link too, or nothing."""
+    program = os.path.join(os.path.dirname(path), "../lib/vrepl/vrepl")
+    if not filecmp.cmp(program, CARRIED, shallow=False):
+        return f"{program} isn't the program in dist/"
     sums = os.path.join(os.path.dirname(path), "../share/doc/vrepl/SOURCES")
     if not filecmp.cmp(sums, os.path.join(run_dist.ROOT, "dist/SOURCES"), shallow=False):
         return f"{sums} isn't dist/SOURCES"
-    ran = subprocess.run([path, "show", "--hex", os.path.join(run_dist.ROOT, "examples/one_insert.hex")], capture_output=True, user=OTHER, check=False)
-    return run_dist.wanted((ran.returncode, ran.stdout, ran.stderr.decode()))
+    link = os.path.join(tempfile.mkdtemp(), "a link")
+    os.symlink(os.path.abspath(path), link)
+    os.chmod(os.path.dirname(link), 0o755)
+    for command in path, link:
+        ran = subprocess.run([command, "show", "--hex", os.path.join(run_dist.ROOT, "examples/one_insert.hex")], capture_output=True, user=OTHER, check=False)
+        fault = run_dist.wanted((ran.returncode, ran.stdout, ran.stderr.decode()))
+        if fault:
+            break
+    shutil.rmtree(os.path.dirname(link))
+    return fault or asks_for_large_pages(path)
+
+
+def asks_for_large_pages(path):
+    """Whether what a script starts has the variable by which the C library asks, unless it is set."""
+    fault = None
+    for told, said in ({}, run_dist.LARGE_PAGES), ({"GLIBC_TUNABLES": ""}, b""):
+        with tempfile.TemporaryDirectory() as folder:
+            for it in "bin", "lib/vrepl":
+                os.makedirs(os.path.join(folder, it))
+            shutil.copy(path, os.path.join(folder, "bin/vrepl"))
+            run_dist.write(os.path.join(folder, "lib/vrepl/vrepl"), run_dist.TELLS)
+            os.chmod(os.path.join(folder, "lib/vrepl/vrepl"), 0o755)
+            plain = {key: value for key, value in os.environ.items() if key != "GLIBC_TUNABLES"}
+            ran = subprocess.run([os.path.join(folder, "bin/vrepl")], capture_output=True, env=plain | told, check=False)
+            fault = fault or run_dist.wanted((ran.returncode, ran.stdout, ran.stderr.decode()), 0, said)
+    return fault
 
 
 def failed(ran):
@@ -73,7 +98,7 @@ def installs_as_any_user(room):
         if fault or files_below(prefix) != INSTALLED:
             return fault or f"there are {files_below(prefix)}"
     modes = {it: os.stat(os.path.join(prefix, it)).st_mode & 0o777 for it in INSTALLED}
-    if any(mode != (0o755 if it == "bin/vrepl" else 0o644) for it, mode in modes.items()):
+    if any(mode != (0o755 if it.endswith("/vrepl") and it.startswith(("bin", "lib")) else 0o644) for it, mode in modes.items()):
         return f"the modes are {modes}"
     fault = is_the_program(os.path.join(prefix, "bin/vrepl"))
     fault = fault or failed(room.run(room.plain, "uninstall", f"PREFIX={prefix}", command="make", user=OTHER))

@@ -12,7 +12,7 @@ from tempfile import NamedTemporaryFile
 from .job import Job
 from .refusals import said_of
 from .stop import Stop
-from .words import NOTHING, check, tiles
+from .words import NOTHING, check, environment, tiles
 
 WARNED = 3
 """The status of a command that tells of something."""
@@ -52,7 +52,7 @@ def _tiles(job: Job) -> list[str]:
 
 def _run(command: list[str]) -> subprocess.CompletedProcess:
     try:
-        return subprocess.run(command, stdin=subprocess.DEVNULL, capture_output=True, check=False)
+        return subprocess.run(command, stdin=subprocess.DEVNULL, capture_output=True, check=False, env=environment())
     except OSError as fault:
         raise Stop(f"{fault.filename}: {fault.strerror}") from None
 

@@ -16,8 +16,6 @@ from .stop import Refused, Stop
 TIED = ["setpriv", "--pdeathsig", "KILL", "--"]
 """The program ends with the process that began it: no second one beside the task's next run."""
 FOUND, MOVED = "found", "moved on"
-LARGE_PAGES = "glibc.malloc.hugetlb=1"
-"""Memory is asked for in the kernel's large pages, where it has them: programs side by side wait less for it."""
 
 
 @dataclass(frozen=True)
@@ -112,9 +110,8 @@ def _counted(dump: str) -> dict[str, int]:
 def _run(command: list[str], out: str | None = None, stdin: bytes = b"", may_be: tuple[int, ...] = (0,), look: list[str] | None = None) -> str:
     """Runs the program, its output into a file where one is named. Answers what it printed at the status 3. Refused by
     another status, with its line, what that means, and its place if it has one (`look`)."""
-    told = {"GLIBC_TUNABLES": LARGE_PAGES, **os.environ}
     with open(out or os.devnull, "wb") as file:
-        ran = subprocess.run([*TIED, *command], input=stdin, stdout=file if out else subprocess.PIPE, stderr=subprocess.PIPE, check=False, env=told)
+        ran = subprocess.run([*TIED, *command], input=stdin, stdout=file if out else subprocess.PIPE, stderr=subprocess.PIPE, check=False, env=words.environment())
         if out:
             os.fsync(file.fileno())
     if ran.returncode not in may_be:

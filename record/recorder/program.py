@@ -12,6 +12,8 @@ from .stop import Stop
 
 OWN = os.path.join(os.path.dirname(os.path.abspath(__file__)), "..", "..", "vrepl")
 """The one of this repository."""
+LARGE_PAGES = "glibc.malloc.hugetlb=1:glibc.malloc.top_pad=16777216"
+"""As ./vrepl sets it, for a program that is named (docs/OPERATE.md, 'Large pages')."""
 DIFFERS = 3
 """The status of `vdiff` where the dumps differ, and of `check` where it warns of something."""
 
@@ -24,8 +26,9 @@ class Program:
         """The status, 0 or 3, and what is printed, unless that goes `out`. The words may name open files, by `name_of`. Stops
         with what it refuses."""
         numbers = tuple(file.fileno() for file in files)
+        told = {"GLIBC_TUNABLES": LARGE_PAGES, **os.environ}
         try:
-            done = subprocess.run([self.path, *words], stdin=subprocess.DEVNULL, stdout=out or subprocess.PIPE, stderr=subprocess.PIPE, pass_fds=numbers)
+            done = subprocess.run([self.path, *words], stdin=subprocess.DEVNULL, stdout=out or subprocess.PIPE, stderr=subprocess.PIPE, pass_fds=numbers, env=told)
         except OSError as fault:
             raise Stop("no program", f"at {self.path}", f"{fault.strerror}; --program names another") from None
         if done.returncode not in (0, DIFFERS):

@@ -19,6 +19,7 @@ from .refused import NoProgram, Refused
 _HERE = os.path.dirname(os.path.abspath(__file__))
 _ROOT = os.path.join(_HERE, "..", "..", "..")
 _REFUSED = re.compile(r"refused (\d+)")
+_LARGE_PAGES = "glibc.malloc.hugetlb=1:glibc.malloc.top_pad=16777216"  # as ./vrepl sets it, unless the caller did
 
 Workflow = str | os.PathLike | bytes | Mapping
 """A workflow: its file's path, its bytes, or the object that the file's JSON says."""
@@ -42,7 +43,7 @@ def program() -> str:
 
 
 def _asked(*words: str, given: bytes = b"") -> tuple[int, bytes]:
-    ran = subprocess.run([program(), *words], input=given, capture_output=True, check=False)
+    ran = subprocess.run([program(), *words], input=given, capture_output=True, check=False, env={"GLIBC_TUNABLES": _LARGE_PAGES, **os.environ})
     if ran.returncode in (0, 3):
         return ran.returncode, ran.stdout
     told = ran.stderr.decode(errors="replace")
