@@ -11,7 +11,7 @@ A case is a folder of tests/cases with these files, each of which may be missing
              or a folder, which can be opened and not read
     files/   what lies in that folder                   missing: nothing
     output   'closed', or a file such as /dev/full: where standard output goes in place of a pipe
-    stdout   the wanted standard output                 missing: nothing
+    stdout   the wanted standard output                 missing: nothing; SUM is the sum of the program's sources
     stderr   the wanted standard error                  missing: nothing, and for status 2 any text
     status   the wanted status                          missing: 0
 
@@ -20,6 +20,7 @@ It runs in a copy of files/, which has a copy of the repository's examples/ too.
 """
 import contextlib
 import os
+import re
 import shutil
 import subprocess
 import sys
@@ -29,6 +30,7 @@ TESTS = os.path.dirname(os.path.abspath(__file__))
 CASES = os.path.join(TESTS, "cases")
 EXAMPLES = os.path.join(os.path.dirname(TESTS), "examples")
 SECONDS = 60
+SUM = re.compile(rb"(?<=sources )[0-9a-f]{64}")
 
 
 def read(folder, name, missing):
@@ -78,7 +80,7 @@ class Case:
         finally:
             if "stdin" in how:
                 os.close(how["stdin"])
-        return ran.returncode, ran.stdout or b"", ran.stderr
+        return ran.returncode, SUM.sub(b"SUM", ran.stdout or b""), ran.stderr
 
     def standard_input(self, place):
         """Answers the words of `subprocess.run` that give the program its standard input."""

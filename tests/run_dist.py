@@ -6,7 +6,8 @@ usage: tests/run_dist.py
 Each check runs in copies of the checkout, most of them with no toolchain in the path: what dist/ has
 answers at once, from a read-only folder and through a link too, and the next time behind one command
 that looks at times; it asks for large pages unless it is told otherwise; a program in dist/ that was cut or
-changed is never run, nor is one of other sources; and scripts/is_released, which ./test calls, refuses both.
+changed is never run, nor is one of other sources; its version tells of which it is; and scripts/is_released, which ./test
+calls, refuses both.
 How ./build goes about its work, and what it notes of it, is tried with a stand-in for the toolchain.
 The last line is 'N passed, M failed': one a check.
 """
@@ -28,11 +29,12 @@ SOURCE = "crates/vrepl/src/main.rt"
 NOT_THE_NAMED = f"{CARRIED} isn't the program that dist/SOURCES names"
 NO_TOOLCHAIN = "rt, which builds one, isn't installed"
 
+ZEROS = 64 * "0"
 # A stand-in for the toolchain: a library takes a moment, the program is a text.
-STAND_IN = """#!/bin/sh
+STAND_IN = f"""#!/bin/sh
 case $1 in
     lib) mkdir -p out/rlib out/incremental; pwd >out/rlib/stamp ;;
-    run) [ -z "$RT_FAILS" ] || exit 1; mkdir -p out; printf '#!/bin/sh\\necho built' >out/vrepl; chmod +x out/vrepl ;;
+    run) [ -z "$RT_FAILS" ] || exit 1; mkdir -p out; printf '#!/bin/sh\\necho built # 1.0.0, sources {ZEROS}' >out/vrepl; chmod +x out/vrepl ;;
 esac
 """
 
@@ -382,6 +384,23 @@ def checkout_without_dist_builds(room):
     return fault
 
 
+def version_tells_the_sources(room):
+    """The sum that dist/SOURCES begins with; a program with no place for it, or with two, isn't kept."""
+    with open(os.path.join(room.plain, "dist/SOURCES"), encoding="utf-8") as file:
+        sources = file.read().split()[1]
+    fault = wanted(room.run(room.plain, "--version"), 0, f"vrepl 1.0.0, sources {sources}\n".encode())
+    place = room.copy("stamped")
+    for places in range(3):
+        program = os.path.join(place, "program")
+        write(program, f", sources {ZEROS}\n" * places)
+        status = room.run(place, program, f"sources {sources}", command="scripts/keep")[0]
+        if status if places == 1 else not status:
+            fault = fault or f"a program with {places} places is kept with status {status}"
+    with open(os.path.join(place, "out/vrepl"), encoding="utf-8") as file:
+        said = file.read()
+    return fault or (None if said == f", sources {sources}\n" else f"kept is {said}")
+
+
 def build_that_fails_leaves_what_was_there(room):
     place = os.path.join(room.folder, "built")
     fault = wanted(room.run(place, *SHOW, builds=True), 0, b"built\n")
@@ -389,7 +408,8 @@ def build_that_fails_leaves_what_was_there(room):
         fault = fault or refused(room.run(place, command="./build", builds=True, RT_FAILS="1"), "vrepl isn't proved")
     fault = fault or wanted(room.run(place, *SHOW, builds=True), 0, b"built\n")
     # a file of at most 16 KiB stands for a full disk
-    words = ["-c", 'ulimit -f 16; exec scripts/keep "$1" "$2"', "keep", os.path.join(ROOT, CARRIED), "sources"]
+    write(os.path.join(place, "large"), f", sources {ZEROS}\n" + (1 << 16) * "x")
+    words = ["-c", 'ulimit -f 16; exec scripts/keep "$1" "$2"', "keep", "large", f"sources {ZEROS}"]
     status = room.run(place, *words, command="bash")[0]
     fault = fault or (None if status else "a program was kept that doesn't fit")
     return fault or wanted(room.run(place, *SHOW, builds=True), 0, b"built\n")
@@ -400,7 +420,7 @@ CHECKS = [
     next_answer_needs_one_command, asks_for_large_pages_unless_told, each_change_is_noticed,
     changed_program_is_never_run, program_of_other_sources_is_not_run, tests_and_documents_do_not_count,
     gate_refuses_a_changed_program, gate_refuses_changed_sources, gate_compares_no_program_of_another_toolchain, answers_from_a_read_only_folder,
-    checkout_without_dist_builds, build_that_fails_leaves_what_was_there,
+    checkout_without_dist_builds, version_tells_the_sources, build_that_fails_leaves_what_was_there,
 ]  # fmt: skip
 
 

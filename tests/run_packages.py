@@ -135,7 +135,7 @@ def package(room, ending):
 
 def version():
     said = subprocess.run([CARRIED, "--version"], capture_output=True, text=True, check=True).stdout
-    return said.removeprefix("vrepl ").strip()
+    return said.removeprefix("vrepl ").partition(",")[0]
 
 
 def tarball_has_the_program(room):
