@@ -6,6 +6,7 @@ use crate::meter::Meter;
 const PORTION: usize = 1_024;
 
 /// Parts of a work that are done one by one, and told of in portions: a part costs an addition.
+#[derive(Drop)]
 pub struct Portions<'m, M: Meter> {
     meter: &'m M,
     /// How many are done that weren't told of.
