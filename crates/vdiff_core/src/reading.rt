@@ -16,6 +16,7 @@ use crate::lined_rows::{LinedRows, keep_line};
 use crate::row_cells::{RowCells, take_row};
 use crate::rows::DumpRows;
 use filter_rule::Plan;
+use pace::{Meter, Portions, Unmetered};
 use pk_copy::Key;
 use row_view::{RowBuf, RowBytes};
 use std::alloc::Global;
@@ -203,18 +204,27 @@ pub fn read_dump(alloc: Global, plan: &Plan, bytes: &[u8]) -> Result<DumpRows, D
     // Memory is wanted for rows alone, which stand behind the name of a table.
     ensures memory { result ≡ Err DumpFault.Memory → MayHaveRow plan.now bytes.now }
 {
-    match read_lines(alloc, plan, bytes, &LinedRows::none(alloc), false) {
+    match read_lines(
+        alloc,
+        plan,
+        bytes,
+        &LinedRows::none(alloc),
+        false,
+        &Unmetered,
+    ) {
         Ok(read) => Ok(read.into_rows()),
         Err(fault) => Err(fault),
     }
 }
 
 /// Reads a dump as `read_dump` does, and keeps the text of its rows' lines, so that another dump can be read beside it.
-/// Where there is no memory for a text, it isn't kept, nor is one behind it.
-pub fn read_lined_dump<'t>(
+/// Where there is no memory for a text, it isn't kept, nor is one behind it. Each line is a part that is done; that so many
+/// begin is the caller's to tell.
+pub fn read_lined_dump<'t, M: Meter>(
     alloc: Global,
     plan: &Plan,
     bytes: &'t [u8],
+    meter: &M,
 ) -> Result<LinedRows<'t>, DumpFault>
     ensures ok { IfOk result (λ rows. IsDump plan.now rows bytes.now) }
     ensures only { (rows : DumpRowsValue) → IsDump plan.now rows bytes.now → (result ≡ Ok rows) ⊎ (result ≡ Err DumpFault.Memory) }
@@ -222,16 +232,18 @@ pub fn read_lined_dump<'t>(
     ensures first { (n : ℕ) → IsFirstBad plan.now bytes.now n → (result ≡ Err (DumpFault.BadDump n)) ⊎ (result ≡ Err DumpFault.Memory) }
     ensures memory { result ≡ Err DumpFault.Memory → MayHaveRow plan.now bytes.now }
 {
-    read_lines(alloc, plan, bytes, &LinedRows::none(alloc), true)
+    read_lines(alloc, plan, bytes, &LinedRows::none(alloc), true, meter)
 }
 
 /// Reads a dump as `read_dump` does, beside the rows of another one under the plan: a row whose line stands there as the
-/// same text, behind those found so far, is copied and isn't decoded.
-pub fn read_dump_beside(
+/// same text, behind those found so far, is copied and isn't decoded. Each line is a part that is done; that so many begin is
+/// the caller's to tell.
+pub fn read_dump_beside<M: Meter>(
     alloc: Global,
     plan: &Plan,
     bytes: &[u8],
     known: &LinedRows<'_>,
+    meter: &M,
 ) -> Result<DumpRows, DumpFault>
     requires { AllByRecursion (FitsPlan plan.now) known.now }
     ensures ok { IfOk result (λ rows. IsDump plan.now rows bytes.now) }
@@ -240,19 +252,20 @@ pub fn read_dump_beside(
     ensures first { (n : ℕ) → IsFirstBad plan.now bytes.now n → (result ≡ Err (DumpFault.BadDump n)) ⊎ (result ≡ Err DumpFault.Memory) }
     ensures memory { result ≡ Err DumpFault.Memory → MayHaveRow plan.now bytes.now }
 {
-    match read_lines(alloc, plan, bytes, known, false) {
+    match read_lines(alloc, plan, bytes, known, false, meter) {
         Ok(read) => Ok(read.into_rows()),
         Err(fault) => Err(fault),
     }
 }
 
 /// Reads a dump, beside known rows, and keeps its lines or not.
-fn read_lines<'t>(
+fn read_lines<'t, M: Meter>(
     alloc: Global,
     plan: &Plan,
     bytes: &'t [u8],
     known: &LinedRows<'_>,
     keeps: bool,
+    meter: &M,
 ) -> Result<LinedRows<'t>, DumpFault>
     requires { AllByRecursion (FitsPlan plan.now) known.now }
     ensures ok { IfOk result (λ rows. IsDump plan.now rows bytes.now) }
@@ -266,6 +279,7 @@ fn read_lines<'t>(
     let mut place = 0;
     let mut rest = bytes;
     let mut line: usize = 1;
+    let mut portions = Portions::of(meter);
     while !rest.is_empty() {
         let count = read.rows.len();
         match read.take_next(alloc, plan, known, &mut place, rest) {
@@ -277,7 +291,9 @@ fn read_lines<'t>(
             Err(LineFault::Memory) => return Err(DumpFault::Memory),
         }
         line += 1;
+        portions.has_done_one();
     }
+    portions.tell();
     if read.begun < plan.tables().len() {
         return Err(DumpFault::BadDump { line });
     }

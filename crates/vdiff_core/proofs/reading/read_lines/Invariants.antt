@@ -4,7 +4,7 @@ use Rattle.vdiff_core.specs.Private.Reading.{IsReadSoFar}
 use Rattle.vdiff_core.proofs.reading.read_lines.Given as goal
 
 abbrev pub invariant-loop-rest : goal.invariant-loop-rest
-invariant-loop-rest l = IsReadSoFar l.fn.plan l.fn.bytes l.read l.rest l.line × AreLinesOf (texts_of l.lines.items) l.read.rows
+invariant-loop-rest g l = IsReadSoFar l.fn.plan l.fn.bytes l.read l.rest l.line × AreLinesOf (texts_of l.lines.items) l.read.rows
 
 abbrev pub decreases-loop-rest : goal.decreases-loop-rest
-decreases-loop-rest l = length l.rest
+decreases-loop-rest g l = length l.rest
