@@ -181,3 +181,10 @@ event_reader checked = record {
   refused = λ bytes f e. refused_by checked bytes f (course checked bytes) (sym (answers checked bytes (course checked bytes)) ∙ e);
   refuses = refuses checked;
 }
+
+-- the bytes of the event at the front, and those after it, are all
+pub event_size : (checked : Bool) (bytes : List ℕ) (x : LogEvent × List ℕ) → event_at checked bytes ≡ Ok x → length bytes ≡ x.0.size + length x.1
+event_size checked bytes x e =
+    let one = (event_reader checked).found bytes x e in
+    let size : x.0.size ≡ length one.0 = ap (λ (e : LogEvent). e.size) one.2.is ∙ one.2.size in
+    ap length one.1 ∙ length-append one.0 x.1 ∙ ap (λ (k : ℕ). k + length x.1) (sym size)

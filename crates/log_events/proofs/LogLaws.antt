@@ -1,5 +1,5 @@
 -- The file of a log: each answer is right, and each right answer is given.
-use Rattle.std.proofs.Common.{◌≡◌, ◌≢◌, ℕ, ◌+◌, ◌*◌, ◌%◌, ◌<◌, ◌≤◌, Bool, true, false, eqb, List, [], ◌∷◌, ◌++◌, drop, Result, Ok, Err, refl, ap, ◌∙◌, inl, inr, arith}
+use Rattle.std.proofs.Common.{◌≡◌, ◌≢◌, ℕ, ◌+◌, ◌*◌, ◌%◌, ◌<◌, ◌≤◌, Bool, true, false, eqb, List, [], ◌∷◌, ◌++◌, length, drop, Result, Ok, Err, refl, ap, ◌∙◌, inl, inr, arith}
 use Rattle.std.proofs.lemmas.Bool.{false≢true, cases_Bool, cases_lt, cases_eq, and_parts, and_from, eqb-true, eq-eqb, ne_eqb, leb-true, le-leb}
 use Rattle.outcome.specs.Outcome.{◌>>=◌}
 use Rattle.item_readers.proofs.ReadingLaws.{spells-reading, only_reading}
@@ -115,7 +115,7 @@ described event =
 -- ---- behind the magic
 
 abbrev behind : Result (LogEvent × List ℕ) EventFault → Result LogValue LogFault
-behind read = of_first read >>= λ first. describes first.0 >>= λ checked. Ok (record { in_use = eqb (first.0.flags % 2) 1; events = events_of checked first.1 })
+behind read = of_first read >>= λ first. describes first.0 >>= λ checked. Ok (record { in_use = eqb (first.0.flags % 2) 1; events = events_of checked first.1; left = length first.1 })
 
 log-behind : (rest : List ℕ) → log_at (magic ++ rest) ≡ behind (event_at true rest)
 unfolding log_at
@@ -142,6 +142,7 @@ answers_described bytes first rest event is h (has checked format checks) =
       checks = checks;
       in_use = refl;
       events = spells-reading (IsEvent checked) (NoEvent checked) (event_at checked) (event_reader checked) rest;
+      left = refl;
     })
 answers_described bytes first rest event is h (none no_format) = rw (describes-not event (format_not event no_format)) (first, rest, event, is, h, no_format)
 answers_described bytes first rest event is h (other format le) = rw (describes-other event format le) (first, rest, event, is, h, (format, le))
@@ -179,7 +180,7 @@ pub log_only : (bytes : List ℕ) (log : LogValue) → IsLog bytes log → log_a
 log_only bytes log h =
     let one : event_at true (h.first ++ h.rest) ≡ Ok (h.description, h.rest) = (event_reader true).finds h.first h.rest h.description h.event in
     let events : events_of h.checked h.rest ≡ log.events = only_reading (IsEvent h.checked) (NoEvent h.checked) (event_at h.checked) (event_reader h.checked) h.rest log.events.items log.events.fault h.events in
-    ap log_at h.is ∙ log-behind (h.first ++ h.rest) ∙ ap behind one ∙ rw (describes-is h.description h.checked h.format h.checks) (rw (events, ← h.in_use) refl)
+    ap log_at h.is ∙ log-behind (h.first ++ h.rest) ∙ ap behind one ∙ rw (describes-is h.description h.checked h.format h.checks) (rw (events, ← h.in_use, ← h.left) refl)
 
 pub log_refuses : (bytes : List ℕ) (fault : LogFault) → NoLogFile bytes fault → log_at bytes ≡ Err fault
 log_refuses bytes NoLog h =

@@ -1,5 +1,6 @@
 pub mod Number
 pub mod Crc
 pub mod Event
+pub mod Unread
 pub mod Log
 pub mod FaultNumber

@@ -10,14 +10,16 @@ use Rattle.item_readers.specs.Reading.{Reading}
 use Rattle.log_events.specs.Number.{number}
 use Rattle.log_events.specs.Event.{LogEvent, IsEvent, NoEvent, AreEvents, event_at, events_of}
 
--- a log: whether the server was still writing it, and the events behind its format description
+-- a log: whether the server was still writing it, the events behind its format description, and how many bytes stand
+-- behind that
 pub record LogValue : Type 0 where
   pub in_use : Bool
   pub events : Reading LogEvent EventFault
+  pub left : ℕ
 
 -- how a log of the program is seen
 abbrev pub log_value : Log → LogValue
-log_value l = record { in_use = l.in_use; events = l.events }
+log_value l = record { in_use = l.in_use; events = l.events.reading; left = l.events.left }
 
 -- ---- its parts
 
@@ -59,6 +61,7 @@ pub record IsLog (bytes : List ℕ) (log : LogValue) : Type 0 where
   pub checks : checks_of description ≡ check_number checked
   pub in_use : log.in_use ≡ (description.flags % 2 == 1)
   pub events : AreEvents checked rest log.events
+  pub left : log.left ≡ length rest
 
 -- the bytes begin by an event that has a property
 abbrev pub BeginsBy : List ℕ → (LogEvent → Type 0) → Type 0
@@ -101,5 +104,5 @@ of_first (Err fault) = Err (First fault)
 unfoldable pub log_at : List ℕ → Result LogValue LogFault
 log_at bytes =
     if begins 0xfe bytes then (of_first (event_at true (drop 4 bytes)) >>= λ first. describes first.0 >>= λ checked.
-    Ok (record { in_use = first.0.flags % 2 == 1; events = events_of checked first.1 }))
+    Ok (record { in_use = first.0.flags % 2 == 1; events = events_of checked first.1; left = length first.1 }))
     else if begins 0xfd bytes then Err Encrypted else Err NoLog
