@@ -5,5 +5,6 @@ pub mod Moment
 pub mod Civil
 pub mod TimeOfDay
 pub mod Decimal
+pub mod Comma
 pub mod Labels
 pub mod Value

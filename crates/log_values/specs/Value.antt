@@ -1,5 +1,5 @@
 -- A value of a row in the log, and its text.
-use Rattle.std.specs.Prelude.{◌≡◌, ℕ, ◌+◌, ◌-◌, ◌==◌, Bool, true, if◌then◌else◌, nat_lt, List, ◌++◌, length, take, drop, replicate, Result, Ok, Err, decimal}
+use Rattle.std.specs.Prelude.{◌≡◌, ℕ, ◌+◌, ◌-◌, ◌==◌, Bool, true, if◌then◌else◌, nat_lt, List, [], ◌++◌, length, take, drop, replicate, Result, Ok, Err, decimal}
 use Rattle.log_events.specs.Number.{number, size_of}
 use Rattle.log_values.specs.declared.fault.ValueFault.{ValueFault}
 use Rattle.log_values.specs.declared.fault.ValueFault.TheVariants.{CutValue, OutOfRange}
@@ -13,6 +13,7 @@ use Rattle.log_values.specs.Moment.{date_fits, date_in, year_in, datetime_fits, 
 use Rattle.log_values.specs.Civil.{timestamp_fits, timestamp_in}
 use Rattle.log_values.specs.TimeOfDay.{time_fits, time_in}
 use Rattle.log_values.specs.Decimal.{decimal_size, decimal_fits, decimal_in}
+use Rattle.log_values.specs.Comma.{comma_bytes}
 use Rattle.log_values.specs.Labels.{label_fits, label_text, labels_text, bits_left}
 
 -- the number of each fault (this profile)
@@ -34,7 +35,7 @@ value_size (DateTime f) bytes = 5 + fraction_size f
 value_size (Time f) bytes = 3 + fraction_size f
 value_size (Timestamp f) bytes = 4 + fraction_size f
 value_size (Label size) bytes = size_of size
-value_size (Labels size) bytes = size_of size
+value_size (Labels size comma) bytes = size_of size
 
 -- whether a value of these bytes is one that its type has
 abbrev pub fits : Kind → List (List ℕ) → List ℕ → Bool
@@ -50,7 +51,7 @@ fits (DateTime f) labels bytes = datetime_fits f bytes
 fits (Time f) labels bytes = time_fits f bytes
 fits (Timestamp f) labels bytes = timestamp_fits f bytes
 fits (Label size) labels bytes = label_fits labels (number 0 (size_of size) bytes)
-fits (Labels size) labels bytes = bits_left (length labels) (number 0 (size_of size) bytes) == 0
+fits (Labels size comma) labels bytes = bits_left (length labels) (number 0 (size_of size) bytes) == 0
 
 -- the text of a value of these bytes
 abbrev pub text : Kind → List (List ℕ) → List ℕ → List ℕ
@@ -66,7 +67,7 @@ text (DateTime f) labels bytes = datetime_in f bytes
 text (Time f) labels bytes = time_in f bytes
 text (Timestamp f) labels bytes = timestamp_in f bytes
 text (Label size) labels bytes = label_text labels (number 0 (size_of size) bytes)
-text (Labels size) labels bytes = labels_text true labels (number 0 (size_of size) bytes)
+text (Labels size comma) labels bytes = labels_text (comma_bytes comma) [] labels (number 0 (size_of size) bytes)
 
 -- the text of the value at the front, and the bytes after it
 unfoldable pub value_at : Kind → List (List ℕ) → List ℕ → Result (List ℕ × List ℕ) ValueFault

@@ -22,7 +22,7 @@ pub(crate) fn fits(kind: Kind, labels: &[&[u8]], bytes: &[u8]) -> bool
         Kind::Time(fraction) => time_fits(fraction, bytes),
         Kind::Timestamp(fraction) => timestamp_fits(fraction, bytes),
         Kind::Label(size) => label_fits(labels, number_at(bytes, 0, size)),
-        Kind::Labels(size) => are_bits(labels, number_at(bytes, 0, size)),
+        Kind::Labels(size, _) => are_bits(labels, number_at(bytes, 0, size)),
         _ => true,
     }
 }

@@ -1,5 +1,6 @@
 //! How the values of a column stand in the log.
 
+use crate::comma::Comma;
 use log_events::Size;
 
 /// How many digits a time has behind the point.
@@ -36,6 +37,6 @@ pub enum Kind {
     Timestamp(Fraction),
     /// The number of a label, of so many bytes: ENUM.
     Label(Size),
-    /// A bit for each label, of so many bytes: SET.
-    Labels(Size),
+    /// A bit for each label, of so many bytes, and what parts their text: SET.
+    Labels(Size, Comma),
 }

@@ -1,8 +1,10 @@
 //! ENUM and SET.
 
-ghost use Rattle.std.specs.Prelude.{◌≡◌, ◌++◌, ◌/◌, ◌==◌, ◌∷◌, if◌then◌else◌, true, List, ℕ, OnOk, IfOk, length, map};
-ghost use Rattle.log_values.specs.Labels.{label_fits, label_text, labels_text, bits_left};
+ghost use Rattle.std.specs.Prelude.{◌≡◌, ◌++◌, ◌%◌, ◌==◌, [], if◌then◌else◌, List, ℕ, OnOk, length, map};
+ghost use Rattle.log_values.specs.Comma.{comma_bytes};
+ghost use Rattle.log_values.specs.Labels.{label_fits, label_text, with_label, labels_text, bits_left};
 
+use crate::comma::{Comma, put_comma};
 use crate::digits::put;
 use std::alloc::AllocError;
 
@@ -40,36 +42,46 @@ pub(crate) fn are_bits(labels: &[&[u8]], n: u64) -> bool
     left == 0
 }
 
-/// Appends one more label.
-fn put_next(out: &mut Vec<u8>, first: bool, label: &[u8]) -> Result<(), AllocError>
-    ensures { OnOk result (out.new.items ≡ out.old.items ++ (if first then label.now else 44 ∷ label.now)) }
+/// Appends one more label to what is written of them from a place on: behind a comma, where anything is.
+fn put_next(out: &mut Vec<u8>, begin: usize, comma: Comma, label: &[u8]) -> Result<(), AllocError>
+    ensures { OnOk result ((before written : List ℕ) → length before ≡ begin → out.old.items ≡ before ++ written → out.new.items ≡ before ++ with_label (comma_bytes comma) written label.now) }
 {
-    if first {
+    if out.len() <= begin {
         return put(out, label);
     }
-    put(out, b",")?;
+    put_comma(out, comma)?;
     put(out, label)
 }
 
-/// Appends a label, if the lowest bit is 1. Answers whether the next is the first.
-fn put_bit(out: &mut Vec<u8>, first: bool, label: &[u8], bits: u64) -> Result<bool, AllocError>
-    ensures { IfOk result (λ now. (rest : List (List ℕ)) → out.new.items ++ labels_text now rest (bits / 2) ≡ out.old.items ++ labels_text first (label.now ∷ rest) bits) }
+/// Appends a label so, if the lowest bit is 1.
+fn put_bit(
+    out: &mut Vec<u8>,
+    begin: usize,
+    comma: Comma,
+    label: &[u8],
+    bits: u64,
+) -> Result<(), AllocError>
+    ensures { OnOk result ((before written : List ℕ) → length before ≡ begin → out.old.items ≡ before ++ written → out.new.items ≡ before ++ (if bits % 2 == 1 then with_label (comma_bytes comma) written label.now else written)) }
 {
-    if bits % 2 == 0 {
-        return Ok(first);
+    if bits % 2 == 1 {
+        return put_next(out, begin, comma, label);
     }
-    put_next(out, first, label)?;
-    Ok(false)
+    Ok(())
 }
 
 /// Appends the labels whose bits are 1.
-pub(crate) fn put_labels(out: &mut Vec<u8>, labels: &[&[u8]], n: u64) -> Result<(), AllocError>
-    ensures { OnOk result (out.new.items ≡ out.old.items ++ labels_text true (map (λ b. b.now) labels.now) n) }
+pub(crate) fn put_labels(
+    out: &mut Vec<u8>,
+    comma: Comma,
+    labels: &[&[u8]],
+    n: u64,
+) -> Result<(), AllocError>
+    ensures { OnOk result (out.new.items ≡ out.old.items ++ labels_text (comma_bytes comma) [] (map (λ b. b.now) labels.now) n) }
 {
+    let begin = out.len();
     let mut left = n;
-    let mut first = true;
     for label in labels {
-        first = put_bit(out, first, label, left)?;
+        put_bit(out, begin, comma, label, left)?;
         left /= 2;
     }
     Ok(())

@@ -3,6 +3,7 @@
 
 mod big;
 mod civil;
+mod comma;
 mod date;
 mod decimal;
 mod digits;
@@ -17,6 +18,7 @@ mod time;
 mod value;
 mod whole;
 
+pub use comma::{Comma, comma_of};
 pub use fault::{ValueError, ValueFault};
 pub use kind::{Fraction, Kind};
 pub use size::bytes_of_size;

@@ -57,6 +57,6 @@ pub(crate) fn put_text(
         Kind::Time(fraction) => put_time(out, fraction, bytes),
         Kind::Timestamp(fraction) => put_timestamp(out, fraction, bytes),
         Kind::Label(size) => put_label(out, labels, number_at(bytes, 0, size)),
-        Kind::Labels(size) => put_labels(out, labels, number_at(bytes, 0, size)),
+        Kind::Labels(size, comma) => put_labels(out, comma, labels, number_at(bytes, 0, size)),
     }
 }

@@ -28,7 +28,7 @@ pub(crate) fn value_size(kind: Kind, bytes: &[u8]) -> u128
     ensures { result ≡ value_size kind bytes.now }
 {
     match kind {
-        Kind::Signed(size) | Kind::Unsigned(size) | Kind::Label(size) | Kind::Labels(size) => {
+        Kind::Signed(size) | Kind::Unsigned(size) | Kind::Label(size) | Kind::Labels(size, _) => {
             u128::from(bytes_of_size(size))
         }
         Kind::Counted(size) | Kind::Padded(size, _) => {
