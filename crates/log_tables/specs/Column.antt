@@ -13,6 +13,7 @@ use Rattle.log_tables.specs.declared.told.Told as told_of
 use Rattle.log_tables.specs.Part.{front_at}
 use Rattle.log_tables.specs.TableMap.{MapValue}
 use Rattle.log_tables.specs.Extra.{part_of, are_names, labels_at, has_no_sign}
+use Rattle.log_tables.specs.Collation.{CollationsTold, collations_value, collations_at, is_labelled, collation_at, comma_told}
 use Rattle.log_tables.specs.Kind.{metadata_size, kind_of}
 
 -- a column of the workflow: its name and its type number (`query.proto`, Type)
@@ -33,17 +34,18 @@ column_value c = record { kind = c.kind; labels = map (λ b. b.now) c.labels.ite
 
 -- ---- one column
 
--- what a map tells of the columns that are still to come: their metadata, the labels of those of ENUM and of SET, and
--- the signs of all columns of numbers, of which so many are past; no signs where they aren't told
+-- what a map tells of the columns that are still to come: their metadata, the labels and the collations of those of ENUM
+-- and of SET, and the signs of all columns of numbers, of which so many are past; no signs where they aren't told
 pub record Told : Type 0 where
   pub metadata : List ℕ
   pub enums : List ℕ
   pub sets : List ℕ
+  pub collations : CollationsTold
   pub signs : List ℕ
   pub numbers : ℕ
 
 abbrev pub told_value : told_of.Told → Told
-told_value t = record { metadata = t.metadata.now; enums = t.enums.now; sets = t.sets.now; signs = t.signs.now; numbers = t.numbers }
+told_value t = record { metadata = t.metadata.now; enums = t.enums.now; sets = t.sets.now; collations = collations_value t.collations; signs = t.signs.now; numbers = t.numbers }
 
 -- types of numbers: whole ones, FLOAT, DOUBLE and DECIMAL
 abbrev pub is_number : ℕ → Bool
@@ -63,7 +65,7 @@ sign_fits (DateTime f) signs n = true
 sign_fits (Time f) signs n = true
 sign_fits (Timestamp f) signs n = true
 sign_fits (Label size) signs n = true
-sign_fits (Labels size) signs n = true
+sign_fits (Labels size comma) signs n = true
 
 abbrev pub is_signed_so : Kind → List ℕ → ℕ → Bool
 is_signed_so kind [] n = true
@@ -72,7 +74,7 @@ is_signed_so kind (b ∷ signs) n = sign_fits kind (b ∷ signs) n
 -- its labels, and what is told of the others
 abbrev pub with_labels : Kind → Told → Result (ColumnValue × Told) TableFault
 with_labels (Label size) told = labels_at told.enums >>= λ x. Ok (record { kind = Label size; labels = x.0 }, record told { enums = x.1 })
-with_labels (Labels size) told = labels_at told.sets >>= λ x. Ok (record { kind = Labels size; labels = x.0 }, record told { sets = x.1 })
+with_labels (Labels size comma) told = labels_at told.sets >>= λ x. Ok (record { kind = Labels size comma; labels = x.0 }, record told { sets = x.1 })
 with_labels (Signed size) told = Ok (record { kind = Signed size; labels = [] }, told)
 with_labels (Unsigned size) told = Ok (record { kind = Unsigned size; labels = [] }, told)
 with_labels (Counted size) told = Ok (record { kind = Counted size; labels = [] }, told)
@@ -94,14 +96,15 @@ kind_there (Some kind) signs n = if is_signed_so kind signs n then Ok kind else 
 unfoldable pub column_at : ℕ → ℕ → Told → Result (ColumnValue × Told) TableFault
 column_at wanted t told =
     front_at (metadata_size t) told.metadata >>= λ meta.
-    kind_there (kind_of wanted t (number 0 2 meta.0)) told.signs told.numbers >>= λ kind.
-    with_labels kind (record told { metadata = meta.1; numbers = if is_number t then told.numbers + 1 else told.numbers })
+    collation_at (is_labelled t (number 0 2 meta.0)) told.collations >>= λ collation.
+    kind_there (kind_of wanted t (number 0 2 meta.0) (comma_told collation.0)) told.signs told.numbers >>= λ kind.
+    with_labels kind (record told { metadata = meta.1; collations = collation.1; numbers = if is_number t then told.numbers + 1 else told.numbers })
 
 -- ---- all columns
 
 -- nothing more is told than the columns need
 abbrev pub is_all_told : Told → Bool
-is_all_told told = (length told.metadata == 0) && (length told.enums == 0) && (length told.sets == 0)
+is_all_told told = (length told.metadata == 0) && (length told.enums == 0) && (length told.sets == 0) && (length told.collations.others == 0)
 
 -- the columns of types, one by one
 unfoldable pub columns_in : List WantedValue → List ℕ → Told → Result (List ColumnValue) TableFault
@@ -118,10 +121,13 @@ abbrev pub has_names : List WantedValue → List ℕ → Bool
 has_names wanted names = (length names == 0) || are_names (map (λ w. w.name) wanted) names
 
 -- The columns of a map, in order: as many as the workflow's, with the same names where the map tells names (kind
--- 4), and each of its type. Labels are of kinds 6 (ENUM) and 5 (SET), signs of kind 1.
+-- 4), and each of its type. Labels are of kinds 6 (ENUM) and 5 (SET), collations of both of kinds 11 and 10, signs of kind
+-- 1.
 unfoldable pub columns_of : List WantedValue → MapValue → Result (List ColumnValue) TableFault
 columns_of wanted m =
     if not (length wanted == length m.types) then Err OtherColumns else
     part_of 4 m.extra >>= λ names. part_of 6 m.extra >>= λ enums. part_of 5 m.extra >>= λ sets. part_of 1 m.extra >>= λ signs.
-    if has_names wanted names then columns_in wanted m.types (record { metadata = m.metadata; enums = enums; sets = sets; signs = signs_told m.types signs; numbers = 0 })
+    part_of 11 m.extra >>= λ each. part_of 10 m.extra >>= λ most.
+    if has_names wanted names then (collations_at each most >>= λ collations.
+    columns_in wanted m.types (record { metadata = m.metadata; enums = enums; sets = sets; collations = collations; signs = signs_told m.types signs; numbers = 0 }))
     else Err OtherColumns

@@ -4,6 +4,7 @@ use Rattle.std.specs.Prelude.{ℕ, ◌+◌, ◌-◌, ◌*◌, ◌/◌, ◌%◌, 
 use Rattle.std.specs.Option.{option_map}
 use Rattle.log_events.specs.declared.number.Size.{Size}
 use Rattle.log_events.specs.declared.number.Size.TheVariants as size
+use Rattle.log_values.specs.declared.comma.Comma.{Comma}
 use Rattle.log_values.specs.declared.kind.Fraction.{Fraction}
 use Rattle.log_values.specs.declared.kind.Fraction.TheVariants as fraction
 use Rattle.log_values.specs.declared.kind.Kind.{Kind}
@@ -63,16 +64,22 @@ labels_size n =
     if n == 1 then Some size.One else if n == 2 then Some size.Two else if n == 3 then Some size.Three
     else if n == 4 then Some size.Four else if n == 8 then Some size.Eight else None
 
+-- SET of so many bytes, where the comma is known that parts its labels
+abbrev pub labels_kind : Option Size → Option Comma → Option Kind
+labels_kind None comma = None
+labels_kind (Some size) None = None
+labels_kind (Some size) (Some comma) = Some (Labels size comma)
+
 -- CHAR or BINARY of so many bytes
 abbrev pub char_kind : ℕ → ℕ → Option Kind
 char_kind wanted width =
     if wanted == 6167 then Some (Counted (count_size width)) else if wanted == 10264 then Some (Padded (count_size width) width) else None
 
 -- the type within is the lowest byte: ENUM 247, SET 248, and of CHAR and BINARY 254 with two bits of the width turned
-abbrev pub string_kind : ℕ → ℕ → Option Kind
-string_kind wanted meta =
+abbrev pub string_kind : ℕ → ℕ → Option Comma → Option Kind
+string_kind wanted meta comma =
     if meta % 256 == 247 then (if wanted == 2074 then option_map Label (label_size (meta / 256)) else None)
-    else if meta % 256 == 248 then (if wanted == 2075 then option_map Labels (labels_size (meta / 256)) else None)
+    else if meta % 256 == 248 then (if wanted == 2075 then labels_kind (labels_size (meta / 256)) comma else None)
     else if (meta % 256 / 64 == 3) && (meta % 16 == 14) then char_kind wanted (meta / 256 + 256 * (3 - meta / 16 % 4)) else None
 
 abbrev pub decimal_kind : ℕ → Option Kind
@@ -82,18 +89,19 @@ decimal_kind meta = if nat_le (meta % 256) 65 && nat_le (meta / 256) (meta % 256
 abbrev pub bit_kind : ℕ → Kind
 bit_kind meta = if meta % 256 == 0 then Bits (meta / 256) else Bits (meta / 256 + 1)
 
-abbrev pub text_kind : ℕ → ℕ → ℕ → Option Kind
-text_kind wanted t meta =
+abbrev pub text_kind : ℕ → ℕ → ℕ → Option Comma → Option Kind
+text_kind wanted t meta comma =
     if (t == 15) && ((wanted == 6165) || (wanted == 10262)) then Some (Counted (count_size meta))
     else if (t == 252) && ((wanted == 6163) || (wanted == 10260)) then option_map Counted (blob_size meta)
-    else if (t == 254) then string_kind wanted meta
+    else if (t == 254) then string_kind wanted meta comma
     else if (t == 246) && (wanted == 18) then decimal_kind meta
     else if (t == 16) && (wanted == 2073) && nat_le meta 2048 then Some (bit_kind meta) else None
 
 -- ---- all of them
 
--- how the values of a column are written, or nothing where its type in the log isn't that of the workflow or isn't read
-unfoldable pub kind_of : ℕ → ℕ → ℕ → Option Kind
-kind_of wanted t meta =
+-- how the values of a column are written, the labels of a SET with this comma; or nothing where its type in the log isn't
+-- that of the workflow or isn't read
+unfoldable pub kind_of : ℕ → ℕ → ℕ → Option Comma → Option Kind
+kind_of wanted t meta comma =
     if (t == 1) || (t == 2) || (t == 9) || (t == 3) || (t == 8) then number_kind wanted t
-    else if (t == 10) || (t == 13) || (t == 17) || (t == 18) || (t == 19) then time_kind wanted t meta else text_kind wanted t meta
+    else if (t == 10) || (t == 13) || (t == 17) || (t == 18) || (t == 19) then time_kind wanted t meta else text_kind wanted t meta comma

@@ -2,5 +2,6 @@ pub mod Fault
 pub mod Part
 pub mod TableMap
 pub mod Extra
+pub mod Collation
 pub mod Kind
 pub mod Column

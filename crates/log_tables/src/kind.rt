@@ -1,10 +1,10 @@
 //! How the values of a column are written.
 
 ghost use Rattle.std.specs.Prelude.{◌≡◌, ◌≤◌};
-ghost use Rattle.log_tables.specs.Kind.{metadata_size, whole_kind, number_kind, fraction_of, time_kind, count_size, blob_size, label_size, labels_size, char_kind, string_kind, decimal_kind, bit_kind, text_kind, kind_of};
+ghost use Rattle.log_tables.specs.Kind.{metadata_size, whole_kind, number_kind, fraction_of, time_kind, count_size, blob_size, label_size, labels_size, labels_kind, char_kind, string_kind, decimal_kind, bit_kind, text_kind, kind_of};
 
 use log_events::Size;
-use log_values::{Fraction, Kind};
+use log_values::{Comma, Fraction, Kind};
 
 /// How many bytes of metadata a type has.
 pub(crate) fn metadata_size(log_type: u8) -> u8
@@ -152,6 +152,13 @@ fn labels_size(size: u16) -> Option<Size>
     }
 }
 
+/// SET of so many bytes, where the comma is known that parts its labels.
+fn labels_kind(size: Option<Size>, comma: Option<Comma>) -> Option<Kind>
+    ensures { result ≡ labels_kind size comma }
+{
+    Some(Kind::Labels(size?, comma?))
+}
+
 /// CHAR or BINARY of so many bytes.
 fn char_kind(wanted: u32, width: u16) -> Option<Kind>
     ensures { result ≡ char_kind wanted width }
@@ -166,8 +173,8 @@ fn char_kind(wanted: u32, width: u16) -> Option<Kind>
 }
 
 /// The kind of a column whose type stands in its metadata.
-fn string_kind(wanted: u32, meta: u16) -> Option<Kind>
-    ensures { result ≡ string_kind wanted meta }
+fn string_kind(wanted: u32, meta: u16, comma: Option<Comma>) -> Option<Kind>
+    ensures { result ≡ string_kind wanted meta comma }
 {
     if meta % 256 == 247 {
         if wanted == 2074 {
@@ -177,7 +184,7 @@ fn string_kind(wanted: u32, meta: u16) -> Option<Kind>
     }
     if meta % 256 == 248 {
         if wanted == 2075 {
-            return Some(Kind::Labels(labels_size(meta / 256)?));
+            return labels_kind(labels_size(meta / 256), comma);
         }
         return None;
     }
@@ -212,8 +219,8 @@ fn bit_kind(meta: u16) -> Kind
 }
 
 /// The kind of a column of texts, bytes, labels, bits or DECIMAL.
-fn text_kind(wanted: u32, log_type: u8, meta: u16) -> Option<Kind>
-    ensures { result ≡ text_kind wanted log_type meta }
+fn text_kind(wanted: u32, log_type: u8, meta: u16, comma: Option<Comma>) -> Option<Kind>
+    ensures { result ≡ text_kind wanted log_type meta comma }
 {
     if log_type == 15 && (wanted == 6165 || wanted == 10262) {
         return Some(Kind::Counted(count_size(meta)));
@@ -222,7 +229,7 @@ fn text_kind(wanted: u32, log_type: u8, meta: u16) -> Option<Kind>
         return Some(Kind::Counted(blob_size(meta)?));
     }
     if log_type == 254 {
-        return string_kind(wanted, meta);
+        return string_kind(wanted, meta, comma);
     }
     if log_type == 246 && wanted == 18 {
         return decimal_kind(meta);
@@ -234,10 +241,11 @@ fn text_kind(wanted: u32, log_type: u8, meta: u16) -> Option<Kind>
 }
 
 /// How the values of a column of this type in the log and this metadata are written, where the workflow has the
-/// type number (`query.proto`, Type); `None` where the two don't fit, or the type isn't read.
+/// type number (`query.proto`, Type), the labels of a SET with this comma; `None` where the two don't fit, or the type
+/// isn't read, as a SET whose comma isn't known.
 #[tactic(auto, unfolding(crate::specs::Kind::kind_of))]
-pub fn kind_of(wanted: u32, log_type: u8, meta: u16) -> Option<Kind>
-    ensures { result ≡ kind_of wanted log_type meta }
+pub fn kind_of(wanted: u32, log_type: u8, meta: u16, comma: Option<Comma>) -> Option<Kind>
+    ensures { result ≡ kind_of wanted log_type meta comma }
 {
     if log_type == 1 || log_type == 2 || log_type == 9 || log_type == 3 || log_type == 8 {
         return number_kind(wanted, log_type);
@@ -245,5 +253,5 @@ pub fn kind_of(wanted: u32, log_type: u8, meta: u16) -> Option<Kind>
     if log_type == 10 || log_type == 13 || log_type == 17 || log_type == 18 || log_type == 19 {
         return time_kind(wanted, log_type, meta);
     }
-    text_kind(wanted, log_type, meta)
+    text_kind(wanted, log_type, meta, comma)
 }

@@ -2,6 +2,7 @@
 //! written.
 #![tactic(auto)]
 
+mod collation;
 mod column;
 mod extra;
 mod fault;

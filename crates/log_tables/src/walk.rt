@@ -7,6 +7,7 @@ ghost use Rattle.log_tables.specs.Fault.{meant};
 ghost use Rattle.log_tables.specs.TableMap.{map_value};
 ghost use Rattle.log_tables.specs.Column.{is_all_told, wanted_value, column_value, told_value, with_labels, kind_there, column_at, columns_in, signs_told, columns_of};
 
+use crate::collation::{collation_of, collations_of, comma_told, is_labelled};
 use crate::column::{LogColumn, Wanted};
 use crate::extra::part_of;
 use crate::fault::{TableError, TableFault};
@@ -38,14 +39,14 @@ fn with_labels<'b>(
     told: Told<'b>,
 ) -> Result<(LogColumn<'b>, Told<'b>), TableError>
     ensures value { GivesUnless meant (λ x. (column_value x.0, told_value x.1)) result (with_labels kind (told_value told.entry)) }
-    ensures few { IfOk result (λ x. x.1.numbers ≡ told.entry.numbers) }
+    ensures few { IfOk result (λ x. (x.1.numbers ≡ told.entry.numbers) × (x.1.collations.past ≡ told.entry.collations.past)) }
 {
     match kind {
         Kind::Label(_) => {
             let (labels, enums) = labels_of(alloc, told.enums)?;
             Ok((LogColumn { kind, labels }, Told { enums, ..told }))
         }
-        Kind::Labels(_) => {
+        Kind::Labels(..) => {
             let (labels, sets) = labels_of(alloc, told.sets)?;
             Ok((LogColumn { kind, labels }, Told { sets, ..told }))
         }
@@ -64,12 +65,15 @@ fn column_of<'b>(
     log_type: u8,
     told: Told<'b>,
 ) -> Result<(LogColumn<'b>, Told<'b>), TableError>
-    requires { told.numbers + 1 < 2 ^ 64 }
+    requires numbers { told.numbers + 1 < 2 ^ 64 }
+    requires past { told.collations.past + 1 < 2 ^ 64 }
     ensures value { GivesUnless meant (λ x. (column_value x.0, told_value x.1)) result (column_at wanted log_type (told_value told.entry)) }
-    ensures few { IfOk result (λ x. x.1.numbers ≤ told.entry.numbers + 1) }
+    ensures few { IfOk result (λ x. (x.1.numbers ≤ told.entry.numbers + 1) × (x.1.collations.past ≤ told.entry.collations.past + 1)) }
 {
     let (meta, metadata) = front_of(told.metadata, u64::from(metadata_size(log_type)))?;
-    let kind = kind_of(wanted, log_type, number_at(meta, 0, Size::Two) as u16);
+    let meta = number_at(meta, 0, Size::Two) as u16;
+    let (collation, collations) = collation_of(is_labelled(log_type, meta), told.collations)?;
+    let kind = kind_of(wanted, log_type, meta, comma_told(collation));
     let kind = kind_there(kind, told.signs, told.numbers)?;
     let numbers = if is_number(log_type) {
         told.numbers + 1
@@ -81,6 +85,7 @@ fn column_of<'b>(
         kind,
         Told {
             metadata,
+            collations,
             numbers,
             ..told
         },
@@ -91,7 +96,10 @@ fn column_of<'b>(
 fn is_all_told(told: &Told<'_>) -> bool
     ensures { result ≡ is_all_told (told_value told.now) }
 {
-    told.metadata.is_empty() && told.enums.is_empty() && told.sets.is_empty()
+    told.metadata.is_empty()
+        && told.enums.is_empty()
+        && told.sets.is_empty()
+        && told.collations.others.is_empty()
 }
 
 /// One column more.
@@ -114,7 +122,8 @@ fn columns_in<'b>(
     types: &[u8],
     told: Told<'b>,
 ) -> Result<Vec<LogColumn<'b>>, TableError>
-    requires { told.numbers ≡ 0 }
+    requires numbers { told.numbers ≡ 0 }
+    requires past { told.collations.past ≡ 0 }
     ensures { GivesUnless meant (λ cs. map column_value cs.items) result (columns_in (map wanted_value wanted.now) types.now (told_value told.entry)) }
 {
     let mut columns = Vec::new(alloc);
@@ -171,13 +180,17 @@ pub fn columns_of<'b>(
     let enums = part_of(6, table.extra)?;
     let sets = part_of(5, table.extra)?;
     let signs = part_of(1, table.extra)?;
+    let each = part_of(11, table.extra)?;
+    let most = part_of(10, table.extra)?;
     if !has_names(wanted, names) {
         return Err(TableError::Fault(TableFault::OtherColumns));
     }
+    let collations = collations_of(each, most)?;
     let told = Told {
         metadata: table.metadata,
         enums,
         sets,
+        collations,
         signs: signs_told(table.types, signs),
         numbers: 0,
     };

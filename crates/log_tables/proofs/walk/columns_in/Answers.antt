@@ -9,7 +9,8 @@ use Rattle.log_tables.proofs.walk.columns_in.Goals as goal
 pub loop-column-init : goal.loop-column-init
 loop-column-init c = (
   front-start (map column_value c.new-columns.result.items) (columns_in (map wanted_value c.args.wanted.now) c.args.types.now (told_value c.args.told)) (ap (map column_value) c.new-columns.ensures.items),
-  omega (arith, c.requires),
+  omega (arith, c.requires.numbers),
+  omega (arith, c.requires.past),
 )
 
 pub returns-in_default : goal.returns-in_default
@@ -24,10 +25,12 @@ returns-in_err-found c =
 
 pub loop-column-preserved : goal.loop-column-preserved
 loop-column-preserved c =
-    let few : c.in_ok-found.rest.numbers ≤ c.loop-column.column-index + 1 = omega (arith, c.in_ok-found.ensures.few, c.loop-column.invariant.1) in (
+    let few : c.in_ok-found.rest.numbers ≤ c.loop-column.column-index + 1 = omega (arith, c.in_ok-found.ensures.few.0, c.loop-column.invariant.1) in
+    let past : c.in_ok-found.rest.collations.past ≤ c.loop-column.column-index + 1 = omega (arith, c.in_ok-found.ensures.few.1, c.loop-column.invariant.2) in (
       rw c.in_ok-push_column.ensures
           (columns_more wanted_value c.args.wanted.now c.loop-column.column-index _ c.loop-column.others.now c.in-Some.behind.now c.in-Some.log_type.now (told_value c.loop-column.left) (column_value c.in_ok-found.found, told_value c.in_ok-found.rest) (map column_value c.loop-column.columns.items) _ c.loop-column-test.true c.in-Some.ensures.cases.0 c.in_ok-found.ensures.value c.loop-column.invariant.0),
       few,
+      past,
     )
 
 pub returns-then-not-is_all_told : goal.returns-then-not-is_all_told

@@ -7,4 +7,4 @@ use Rattle.log_tables.proofs.walk.columns_in.Given as goal
 abbrev pub invariant-loop-column : goal.invariant-loop-column
 invariant-loop-column l =
     (with_front (map column_value l.columns.items) (columns_in (map wanted_value (drop l.column-index l.wanted)) l.others (told_value l.left)) ≡ columns_in (map wanted_value l.wanted) l.types (told_value l.fn.told))
-    × (l.left.numbers ≤ l.column-index)
+    × (l.left.numbers ≤ l.column-index) × (l.left.collations.past ≤ l.column-index)
