@@ -29,7 +29,7 @@ fn next_of<'b>(
     transactions: &mut Transactions<'_, 'b>,
     waiting: &mut Vec<Waiting<'b>>,
 ) -> Result<Option<Group<'b>>, GroupError>
-    ensures { FindsGroup (groups_behind (map waiting_value waiting.old.items) transactions.old) (result_map_both (λ g. option_map group_value g) (λ e. e) result) (groups_behind (map waiting_value waiting.new.items) transactions.new) }
+    ensures { FindsGroup (groups_behind (map waiting_value waiting.old.items) transactions.old.reading) (result_map_both (λ g. option_map group_value g) (λ e. e) result) (groups_behind (map waiting_value waiting.new.items) transactions.new.reading) }
 {
     match transactions.next_transaction(alloc)? {
         Some(transaction) => {
@@ -46,8 +46,8 @@ fn next_of<'b>(
     }
 }
 
-/// The groups of a log that are still to come, in order. Seen in contracts as that list, and the fault that ends it, if
-/// one does.
+/// The groups of a log that are still to come, in order. Seen in contracts as that list with the fault that ends it, if one
+/// does, and how many of the log's bytes aren't read yet.
 #[derive(Drop)]
 pub struct Groups<'t, 'b> {
     transactions: Transactions<'t, 'b>,
@@ -59,20 +59,21 @@ pub struct Groups<'t, 'b> {
 
 impl<'t, 'b> Model for Groups<'t, 'b> {
     ghost use Rattle.std.specs.Prelude.{map};
-    ghost use Rattle.item_readers.specs.Reading.{Reading};
+    ghost use Rattle.log_events.specs.Unread.{Unread};
     ghost use Rattle.log_groups.specs.declared.fault.GroupFault.{GroupFault};
     ghost use Rattle.log_groups.specs.Group.{GroupValue, groups_behind};
     ghost use Rattle.log_groups.specs.GroupCalls.{waiting_value, unless_refused};
 
-    ghost Value = { Reading GroupValue GroupFault };
+    ghost Value = { Unread GroupValue GroupFault };
 
-    ghost view = { λ a. unless_refused a.failed (groups_behind (map waiting_value a.waiting.items) a.transactions) };
+    ghost view = { λ a. record { reading = unless_refused a.failed (groups_behind (map waiting_value a.waiting.items) a.transactions.reading); left = a.transactions.left } };
 }
 
 impl<'t, 'b> Groups<'t, 'b> {
     /// The groups of a log's transactions. Nothing is read yet, and no memory is taken.
     pub fn new(alloc: Global, transactions: Transactions<'t, 'b>) -> Groups<'t, 'b>
-        ensures { result ≡ groups_of transactions.entry }
+        ensures reading { result.reading ≡ groups_of transactions.entry.reading }
+        ensures left { result.left ≡ transactions.entry.left }
     {
         Groups {
             transactions,
@@ -84,7 +85,7 @@ impl<'t, 'b> Groups<'t, 'b> {
     /// The next group, or `None` at the end. After the end the end is answered again, and after a fault the same fault.
     /// Behind want of memory nothing is told of what is still to come.
     pub fn next_group(&mut self, alloc: Global) -> Result<Option<Group<'b>>, GroupError>
-        ensures { NextGroup self.old (result_map_both (λ g. option_map group_value g) (λ e. e) result) self.new }
+        ensures { NextGroup self.old.reading (result_map_both (λ g. option_map group_value g) (λ e. e) result) self.new.reading }
     {
         if let Some(fault) = self.failed {
             return Err(GroupError::Fault(fault));
@@ -99,7 +100,9 @@ impl<'t, 'b> Groups<'t, 'b> {
     }
 
     /// How many bytes of the log aren't read yet: those behind the last event that was read.
-    pub fn bytes_left(&self) -> usize {
+    pub fn bytes_left(&self) -> usize
+        ensures { result ≡ self.now.left }
+    {
         self.transactions.bytes_left()
     }
 }

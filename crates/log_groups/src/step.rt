@@ -108,7 +108,7 @@ fn step_of<'b>(event: &Event<'b>) -> Result<Option<Step<'b>>, GroupFault>
 
 /// The next step of a log's events; those that are no step are passed over.
 pub(crate) fn next_step<'b>(events: &mut Events<'_, 'b>) -> Result<Option<Step<'b>>, GroupFault>
-    ensures { NextStep step_value (steps_of events.old) result (steps_of events.new) }
+    ensures { NextStep step_value (steps_of events.old.reading) result (steps_of events.new.reading) }
 {
     while let Some(event) = events.next_event()? {
         if let Some(step) = step_of(&event)? {

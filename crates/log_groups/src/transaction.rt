@@ -40,7 +40,7 @@ fn transaction_behind<'b>(
     gtid: Gtid<'b>,
     events: &mut Events<'_, 'b>,
 ) -> Result<Transaction<'b>, GroupError>
-    ensures { FindsTransaction (Ok (Begin (gtid_value gtid.entry)) ∷ steps_of events.old) (result_map_both (λ t. transaction_value t) (λ e. e) result) (steps_of events.new) }
+    ensures { FindsTransaction (Ok (Begin (gtid_value gtid.entry)) ∷ steps_of events.old.reading) (result_map_both (λ t. transaction_value t) (λ e. e) result) (steps_of events.new.reading) }
 {
     let mut open = Open::new(alloc, waits_behind(gtid));
     while let Some(step) = next_step(events)? {
@@ -63,7 +63,7 @@ fn transaction_from<'b>(
     first: Step<'b>,
     events: &mut Events<'_, 'b>,
 ) -> Result<Transaction<'b>, GroupError>
-    ensures { FindsTransaction (Ok (step_value first.entry) ∷ steps_of events.old) (result_map_both (λ t. transaction_value t) (λ e. e) result) (steps_of events.new) }
+    ensures { FindsTransaction (Ok (step_value first.entry) ∷ steps_of events.old.reading) (result_map_both (λ t. transaction_value t) (λ e. e) result) (steps_of events.new.reading) }
 {
     match first {
         Step::Begin(gtid) => transaction_behind(alloc, gtid, events),
@@ -76,7 +76,7 @@ pub(crate) fn next_of<'b>(
     alloc: Global,
     events: &mut Events<'_, 'b>,
 ) -> Result<Option<Transaction<'b>>, GroupError>
-    ensures { ReadsTransaction (steps_of events.old) (result_map_both (λ t. option_map transaction_value t) (λ e. e) result) (steps_of events.new) }
+    ensures { ReadsTransaction (steps_of events.old.reading) (result_map_both (λ t. option_map transaction_value t) (λ e. e) result) (steps_of events.new.reading) }
 {
     match next_step(events)? {
         Some(first) => {

@@ -14,8 +14,8 @@ use log_events::Events;
 use std::alloc::Global;
 use std::marker::Model;
 
-/// The transactions of a log that are still to come, in order. Seen in contracts as that list, and the fault that ends
-/// it, if one does.
+/// The transactions of a log that are still to come, in order. Seen in contracts as that list with the fault that ends it,
+/// if one does, and how many of the log's bytes aren't read yet.
 #[derive(Drop)]
 pub struct Transactions<'t, 'b> {
     events: Events<'t, 'b>,
@@ -24,25 +24,26 @@ pub struct Transactions<'t, 'b> {
 }
 
 impl<'t, 'b> Model for Transactions<'t, 'b> {
-    ghost use Rattle.item_readers.specs.Reading.{Reading};
+    ghost use Rattle.log_events.specs.Unread.{Unread};
     ghost use Rattle.log_groups.specs.declared.fault.GroupFault.{GroupFault};
     ghost use Rattle.log_groups.specs.Step.{steps_of};
     ghost use Rattle.log_groups.specs.Transaction.{TransactionValue, transactions_of};
     ghost use Rattle.log_groups.specs.Calls.{unless_failed};
 
-    ghost Value = { Reading TransactionValue GroupFault };
+    ghost Value = { Unread TransactionValue GroupFault };
 
-    ghost view = { λ a. unless_failed a.failed (transactions_of (steps_of a.events)) };
+    ghost view = { λ a. record { reading = unless_failed a.failed (transactions_of (steps_of a.events.reading)); left = a.events.left } };
 }
 
 impl<'t, 'b> Transactions<'t, 'b> {
     /// The transactions of a log's events. Nothing is read yet, and no memory is taken.
     pub fn new(events: Events<'t, 'b>) -> Transactions<'t, 'b>
-        ensures reading { result ≡ transactions_of (steps_of events.entry) }
+        ensures reading { result.reading ≡ transactions_of (steps_of events.entry.reading) }
+        ensures left { result.left ≡ events.entry.left }
         // The log's steps are these transactions one after another, and then the end or that fault,
-        ensures spelled { AreTransactions (steps_of events.entry) result }
+        ensures spelled { AreTransactions (steps_of events.entry.reading) result.reading }
         // and no others.
-        ensures only { (other : Reading TransactionValue GroupFault) → AreTransactions (steps_of events.entry) other → other ≡ result }
+        ensures only { (other : Reading TransactionValue GroupFault) → AreTransactions (steps_of events.entry.reading) other → other ≡ result.reading }
     {
         Transactions {
             events,
@@ -53,7 +54,7 @@ impl<'t, 'b> Transactions<'t, 'b> {
     /// The next transaction, or `None` at the end. After the end the end is answered again, and after a fault the same
     /// fault. Behind want of memory nothing is told of what is still to come.
     pub fn next_transaction(&mut self, alloc: Global) -> Result<Option<Transaction<'b>>, GroupError>
-        ensures { NextTransaction self.old (result_map_both (λ t. option_map transaction_value t) (λ e. e) result) self.new }
+        ensures { NextTransaction self.old.reading (result_map_both (λ t. option_map transaction_value t) (λ e. e) result) self.new.reading }
     {
         if let Some(fault) = self.failed {
             return Err(GroupError::Fault(fault));
@@ -68,7 +69,9 @@ impl<'t, 'b> Transactions<'t, 'b> {
     }
 
     /// How many bytes of the log aren't read yet: those behind the last event that was read.
-    pub fn bytes_left(&self) -> usize {
+    pub fn bytes_left(&self) -> usize
+        ensures { result ≡ self.now.left }
+    {
         self.events.bytes_left()
     }
 }

@@ -5,7 +5,7 @@ use Rattle.log_groups.proofs.transaction.transaction_behind.Given as goal
 
 -- the transaction so far, and the steps to come, are what the steps behind the position are
 abbrev pub invariant-loop-open : goal.invariant-loop-open
-invariant-loop-open l = goes_at l.open (steps_of l.events) ≡ goes_at (begun (waits_behind (gtid_value l.gtid))) (steps_of l.fn.events)
+invariant-loop-open l = goes_at l.open (steps_of l.events.reading) ≡ goes_at (begun (waits_behind (gtid_value l.gtid))) (steps_of l.fn.events.reading)
 
 abbrev pub decreases-loop-open : goal.decreases-loop-open
-decreases-loop-open l = length (steps_of l.events)
+decreases-loop-open l = length (steps_of l.events.reading)

@@ -6,7 +6,7 @@ use Rattle.log_groups.proofs.TransactionLaws.{transaction_reader}
 use Rattle.log_groups.proofs.transactions.Transactions.new.Goals as goal
 
 pub returns-clause-spelled : goal.returns-clause-spelled
-returns-clause-spelled c = spells-reading IsTransaction NoTransaction transaction_at transaction_reader (steps_of c.args.events)
+returns-clause-spelled c = spells-reading IsTransaction NoTransaction transaction_at transaction_reader (steps_of c.args.events.reading)
 
 pub returns-clause-only : goal.returns-clause-only
-returns-clause-only c other h = sym (only_reading IsTransaction NoTransaction transaction_at transaction_reader (steps_of c.args.events) other.items other.fault h)
+returns-clause-only c other h = sym (only_reading IsTransaction NoTransaction transaction_at transaction_reader (steps_of c.args.events.reading) other.items other.fault h)
