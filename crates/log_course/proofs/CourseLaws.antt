@@ -5,20 +5,20 @@ use Rattle.item_readers.specs.Reading.{Reading}
 use Rattle.item_readers.proofs.ReadingLaws.{spells-reading, only_reading}
 use Rattle.gtid_set.specs.declared.interval.Interval.{Interval}
 use Rattle.log_events.specs.declared.fault.LogFault.{LogFault}
-use Rattle.log_events.specs.Log.{LogValue, IsLog, AnswersLog, log_at}
+use Rattle.log_events.specs.Unread.{Unread}
+use Rattle.log_events.specs.Log.{LogValue, AnswersLog, log_at}
 use Rattle.log_events.proofs.LogLaws.{log_answers, log_only}
 use Rattle.log_groups.specs.declared.fault.GroupFault.{GroupFault}
 use Rattle.log_groups.specs.declared.fault.GroupError as group_error
 use Rattle.log_groups.specs.declared.fault.GroupError.TheVariants as group_errors
 use Rattle.log_groups.specs.Step.{steps_of}
-use Rattle.log_groups.specs.Transaction.{TransactionValue, IsTransaction, NoTransaction, AreTransactions, transaction_at, transactions_of}
-use Rattle.log_groups.specs.Group.{GroupValue, groups_of}
+use Rattle.log_groups.specs.Transaction.{IsTransaction, NoTransaction, transaction_at, transactions_of}
+use Rattle.log_groups.specs.Group.{GroupValue}
 use Rattle.log_groups.specs.GroupCalls.{NextGroup}
 use Rattle.log_groups.proofs.TransactionLaws.{transaction_reader}
 use Rattle.log_places.specs.declared.fault.PlaceFault.{PlaceFault}
 use Rattle.log_places.specs.Place.{position_behind}
 use Rattle.log_course.specs.declared.fault.CourseFault.{CourseFault}
-use Rattle.log_course.specs.declared.fault.CourseFault.TheVariants.{Place}
 use Rattle.log_course.specs.declared.fault.CourseError.{CourseError}
 use Rattle.log_course.specs.declared.fault.CourseError.TheVariants.{Memory, Fault}
 use Rattle.log_course.specs.Fault.{of_log, of_place}
@@ -27,8 +27,8 @@ use Rattle.log_course.specs.Calls.{CourseValue, NextPlaced, PlacesGroup, EndsSo}
 
 -- ---- groups behind positions
 
-abbrev course_of : List Interval → Bool → Reading GroupValue GroupFault → CourseValue
-course_of reached in_use r = record { reached = reached; groups = placed_behind reached in_use r }
+abbrev course_of : List Interval → Bool → Unread GroupValue GroupFault → CourseValue
+course_of reached in_use u = record { reached = reached; groups = placed_behind reached in_use u.reading; left = u.left }
 
 placed_there : (reached position : List Interval) (in_use : Bool) (old new : Reading GroupValue GroupFault) (g : GroupValue) → old.items ≡ g ∷ new.items → old.fault ≡ new.fault → position_behind reached g.gtid ≡ Ok position
     → ((placed_behind reached in_use old).items ≡ record { position = position; changes = g.changes } ∷ (placed_behind position in_use new).items) × ((placed_behind reached in_use old).fault ≡ (placed_behind position in_use new).fault)
@@ -52,38 +52,38 @@ placed_end reached in_use old end none is = rw (none, is) (refl, refl)
 
 -- ---- calls
 
-placed_so : (reached new_reached : List Interval) (in_use : Bool) (old new : Reading GroupValue GroupFault) (g : GroupValue) (answer : Result (Option PlacedValue) CourseError)
-    → NextGroup old (Ok (Some g)) new → PlacesGroup reached g answer new_reached → NextPlaced (course_of reached in_use old) answer (course_of new_reached in_use new)
+placed_so : (reached new_reached : List Interval) (in_use : Bool) (old new : Unread GroupValue GroupFault) (g : GroupValue) (answer : Result (Option PlacedValue) CourseError)
+    → NextGroup old.reading (Ok (Some g)) new.reading → PlacesGroup reached g answer new_reached → NextPlaced (course_of reached in_use old) answer (course_of new_reached in_use new)
 placed_so reached new_reached in_use old new g (Ok None) front h = absurd h
 placed_so reached new_reached in_use old new g (Ok (Some p)) front (position, changes, same) =
-    let there = placed_there reached p.position in_use old new g front.0 front.1 position in
+    let there = placed_there reached p.position in_use old.reading new.reading g front.0 front.1 position in
     rw same (rw changes there.0, there.1, refl)
 placed_so reached new_reached in_use old new g (Err Memory) front h = tt
-placed_so reached new_reached in_use old new g (Err (Fault wrong)) front h = placed_wrong reached in_use old new g wrong front.0 h
+placed_so reached new_reached in_use old new g (Err (Fault wrong)) front h = placed_wrong reached in_use old.reading new.reading g wrong front.0 h
 
-pub group_placed : (reached new_reached : List Interval) (in_use : Bool) (old new : Reading GroupValue GroupFault) (g : GroupValue) (answer : Result (Option PlacedValue) CourseError) (all : CourseValue) → course_of reached in_use old ≡ all
-    → NextGroup old (Ok (Some g)) new → PlacesGroup reached g answer new_reached → NextPlaced all answer (course_of new_reached in_use new)
+pub group_placed : (reached new_reached : List Interval) (in_use : Bool) (old new : Unread GroupValue GroupFault) (g : GroupValue) (answer : Result (Option PlacedValue) CourseError) (all : CourseValue) → course_of reached in_use old ≡ all
+    → NextGroup old.reading (Ok (Some g)) new.reading → PlacesGroup reached g answer new_reached → NextPlaced all answer (course_of new_reached in_use new)
 group_placed reached new_reached in_use old new g answer all seen front h = rw (sym seen) (placed_so reached new_reached in_use old new g answer front h)
 
-pub groups_end : (reached : List Interval) (in_use : Bool) (old new : Reading GroupValue GroupFault) (all : CourseValue) → course_of reached in_use old ≡ all → NextGroup old (Ok None) new → NextPlaced all (Ok None) (course_of reached in_use new)
+pub groups_end : (reached : List Interval) (in_use : Bool) (old new : Unread GroupValue GroupFault) (all : CourseValue) → course_of reached in_use old ≡ all → NextGroup old.reading (Ok None) new.reading → NextPlaced all (Ok None) (course_of reached in_use new)
 groups_end reached in_use old new all seen last =
-    let end = placed_end reached in_use old None last.0 last.1 in
-    rw (sym seen) (end.0, end.1, ap (course_of reached in_use) last.2)
+    let end = placed_end reached in_use old.reading None last.0 last.1 in
+    rw (sym seen) (end.0, end.1, ap (placed_behind reached in_use) last.2, refl)
 
-failed_so : (reached : List Interval) (in_use : Bool) (old new : Reading GroupValue GroupFault) (error : group_error.GroupError) (answer : Result (Option PlacedValue) CourseError)
-    → NextGroup old (Err error) new → EndsSo in_use error answer → NextPlaced (course_of reached in_use old) answer (course_of reached in_use new)
+failed_so : (reached : List Interval) (in_use : Bool) (old new : Unread GroupValue GroupFault) (error : group_error.GroupError) (answer : Result (Option PlacedValue) CourseError)
+    → NextGroup old.reading (Err error) new.reading → EndsSo in_use error answer → NextPlaced (course_of reached in_use old) answer (course_of reached in_use new)
 failed_so reached in_use old new group_errors.Memory answer last ends = rw ends tt
 failed_so reached in_use old new (group_errors.Fault fault) (Ok None) last ends =
-    let end = placed_end reached in_use old (Some fault) last.0 last.1 in
-    (end.0, end.1 ∙ ends, ap (course_of reached in_use) last.2)
+    let end = placed_end reached in_use old.reading (Some fault) last.0 last.1 in
+    (end.0, end.1 ∙ ends, ap (placed_behind reached in_use) last.2, refl)
 failed_so reached in_use old new (group_errors.Fault fault) (Ok (Some g)) last ends = absurd ends
 failed_so reached in_use old new (group_errors.Fault fault) (Err Memory) last ends = absurd ends
 failed_so reached in_use old new (group_errors.Fault fault) (Err (Fault f)) last ends =
-    let end = placed_end reached in_use old (Some fault) last.0 last.1 in
+    let end = placed_end reached in_use old.reading (Some fault) last.0 last.1 in
     (end.0, end.1 ∙ ends)
 
-pub groups_fail : (reached : List Interval) (in_use : Bool) (old new : Reading GroupValue GroupFault) (error : group_error.GroupError) (answer : Result (Option PlacedValue) CourseError) (all : CourseValue) → course_of reached in_use old ≡ all
-    → NextGroup old (Err error) new → EndsSo in_use error answer → NextPlaced all answer (course_of reached in_use new)
+pub groups_fail : (reached : List Interval) (in_use : Bool) (old new : Unread GroupValue GroupFault) (error : group_error.GroupError) (answer : Result (Option PlacedValue) CourseError) (all : CourseValue) → course_of reached in_use old ≡ all
+    → NextGroup old.reading (Err error) new.reading → EndsSo in_use error answer → NextPlaced all answer (course_of reached in_use new)
 groups_fail reached in_use old new error answer all seen last ends = rw (sym seen) (failed_so reached in_use old new error answer last ends)
 
 -- ---- the whole of a file

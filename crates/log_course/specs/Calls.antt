@@ -1,5 +1,5 @@
 -- What the calls answer and leave that read a log's groups. Of want of memory nothing is told.
-use Rattle.std.specs.Prelude.{◌≡◌, Bool, List, [], ◌∷◌, map, Option, Some, None, Result, Ok, Err}
+use Rattle.std.specs.Prelude.{◌≡◌, ℕ, Bool, List, [], ◌∷◌, map, Option, Some, None, Result, Ok, Err}
 use Rattle.item_readers.specs.Reading.{Reading}
 use Rattle.gtid_set.specs.declared.interval.Interval.{Interval}
 use Rattle.log_groups.specs.declared.fault.GroupError as group_error
@@ -18,16 +18,17 @@ use Rattle.log_course.specs.Course.{PlacedValue, end_of}
 abbrev pub placed_value : placed_group.PlacedGroup → PlacedValue
 placed_value g = record { position = g.position; changes = map done_value g.changes.items }
 
--- a log of the program: the position that was reached, and the groups still to come
+-- a log of the program: the position that was reached, the groups still to come, and how many of its bytes aren't read yet
 pub record CourseValue : Type 0 where
   pub reached : List Interval
   pub groups : Reading PlacedValue CourseFault
+  pub left : ℕ
 
--- The next group is taken off the front, and the position behind it is reached. At the end nothing changes. Behind a
--- fault nothing is told of what is still to come.
+-- The next group is taken off the front, and the position behind it is reached. At the end neither changes. Behind a fault
+-- nothing is told of what is still to come.
 abbrev pub NextPlaced : CourseValue → Result (Option PlacedValue) CourseError → CourseValue → Type 0
 NextPlaced old (Ok (Some g)) new = (old.groups.items ≡ g ∷ new.groups.items) × (old.groups.fault ≡ new.groups.fault) × (new.reached ≡ g.position)
-NextPlaced old (Ok None) new = (old.groups.items ≡ []) × (old.groups.fault ≡ None) × (new ≡ old)
+NextPlaced old (Ok None) new = (old.groups.items ≡ []) × (old.groups.fault ≡ None) × (new.groups ≡ old.groups) × (new.reached ≡ old.reached)
 NextPlaced old (Err Memory) new = Unit {0}
 NextPlaced old (Err (Fault fault)) new = (old.groups.items ≡ []) × (old.groups.fault ≡ Some fault)
 

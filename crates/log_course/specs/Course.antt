@@ -10,7 +10,7 @@ use Rattle.log_events.specs.Event.{LogEvent}
 use Rattle.log_events.specs.Log.{LogValue, IsLog, log_at}
 use Rattle.log_groups.specs.declared.fault.GroupFault.{GroupFault}
 use Rattle.log_groups.specs.declared.fault.GroupFault.TheVariants.{Event, Unended}
-use Rattle.log_groups.specs.Step.{GtidValue, steps_of}
+use Rattle.log_groups.specs.Step.{steps_of}
 use Rattle.log_groups.specs.Transaction.{DoneValue, TransactionValue, AreTransactions, transactions_of}
 use Rattle.log_groups.specs.Group.{GroupValue, groups_of}
 use Rattle.log_places.specs.declared.fault.PlaceFault.{PlaceFault}

@@ -1,9 +1,9 @@
 //! The groups of a log one after another, each with the position behind it.
 
-ghost use Rattle.std.specs.Prelude.{◌≡◌, IfErr, IfOk, option_map};
+ghost use Rattle.std.specs.Prelude.{◌≡◌, IfErr, IfOk, Ok, option_map};
 ghost use Rattle.std.specs.Result.{result_map_both};
 ghost use Rattle.outcome.specs.Outcome.{GivesUnless};
-ghost use Rattle.log_events.specs.Log.{log_value, log_at};
+ghost use Rattle.log_events.specs.Log.{LogValue, log_value, log_at};
 ghost use Rattle.log_groups.specs.Step.{gtid_value};
 ghost use Rattle.log_groups.specs.GroupCalls.{group_value};
 ghost use Rattle.log_places.specs.Place.{position_behind};
@@ -31,7 +31,7 @@ pub struct PlacedGroup<'b> {
 }
 
 /// The groups of a log that are still to come, in order. Seen in contracts as that list with the fault that ends it, if
-/// one does, and the position that was reached.
+/// one does, the position that was reached, and how many of the log's bytes aren't read yet.
 #[derive(Drop)]
 pub struct LogGroups<'t, 'b> {
     groups: Groups<'t, 'b>,
@@ -45,7 +45,7 @@ impl<'t, 'b> Model for LogGroups<'t, 'b> {
 
     ghost Value = { CourseValue };
 
-    ghost view = { λ a. record { reached = a.reached; groups = placed_behind a.reached a.in_use a.groups } };
+    ghost view = { λ a. record { reached = a.reached; groups = placed_behind a.reached a.in_use a.groups.reading; left = a.groups.left } };
 }
 
 /// Whether a log ends inside of a transaction, or of an event.
@@ -114,7 +114,7 @@ fn copy_of(alloc: Global, position: &GtidSet) -> Result<GtidSet, CourseError>
 
 /// Whether a log goes on where this position was reached, by its first event.
 fn begins(alloc: Global, reached: &GtidSet, events: Events<'_, '_>) -> Result<(), CourseError>
-    ensures { GivesUnless meant (λ x. x) result (begins reached.now events.entry.items events.entry.fault) }
+    ensures { GivesUnless meant (λ x. x) result (begins reached.now events.entry.reading.items events.entry.reading.fault) }
 {
     let mut events = events;
     match events.next_event() {
@@ -150,6 +150,8 @@ impl<'t, 'b> LogGroups<'t, 'b> {
     ) -> Result<LogGroups<'t, 'b>, CourseError>
         ensures reading { GivesUnless meant (λ a. a.groups) result (course_at reached bytes.now) }
         ensures reached { IfOk result (λ a. a.reached ≡ reached) }
+        // All bytes behind the format description are still to be read.
+        ensures left { IfOk result (λ a. (log : LogValue) → log_at bytes.now ≡ Ok log → a.left ≡ log.left) }
         // These are just the groups that the file's transactions commit.
         ensures right { CoursesAreRead }
     {
@@ -185,7 +187,9 @@ impl<'t, 'b> LogGroups<'t, 'b> {
     }
 
     /// How many bytes of the log aren't read yet: those behind the last event that was read.
-    pub fn bytes_left(&self) -> usize {
+    pub fn bytes_left(&self) -> usize
+        ensures { result ≡ self.now.left }
+    {
         self.groups.bytes_left()
     }
 }
