@@ -2,7 +2,6 @@
 server, on random tables of the types that are read, in one file and in several, while the server writes the last one."""
 import os
 import random
-import re
 from contextlib import closing
 
 import pymysql
@@ -11,6 +10,8 @@ from .random_tables import MODES, SCHEMA, Column, Maker
 
 ROUNDS, BATCH = 60, 12
 """How many tables, and how many one feed has."""
+EACH = 100
+"""How many columns a table has of those of each collation."""
 
 
 class ReadMaker(Maker):
@@ -22,14 +23,6 @@ class ReadMaker(Maker):
     def column(self) -> Column:
         makers = [self.integer, self.decimal, self.bit, self.year, self.date, self.date, self.time, self.characters, self.characters, self.binary]
         return self.r.choice(makers + [self.labelled] * (2 * self.labels))()
-
-    def labelled(self) -> Column:
-        """No SET in a charset of two or four bytes a character, or with an empty label: `transcribe` joins such labels by other
-        bytes than the server does (docs/RECORD.md)."""
-        while True:
-            column = super().labelled()
-            if not (column.definition.startswith("SET(") and re.search(r"utf16|ucs2|utf32|''", column.definition)):
-                return column
 
     def statements(self) -> list[str]:
         """Those of a table without a generated column, and without widths that no log tells."""
@@ -67,8 +60,23 @@ def _end(shown: bytes) -> bytes:
     return [line.split(b" ")[2] for line in shown.split(b"\n") if line.startswith(b"group ")][-1]
 
 
+def collated(trial) -> None:
+    """A column of SET with an empty label in each of the server's collations: its labels are joined as the server does."""
+    trial.server.sql(f"CREATE DATABASE {SCHEMA}; RESET MASTER; SET GLOBAL binlog_row_metadata=FULL")
+    found = trial.server.sql("SELECT full_collation_name FROM information_schema.collation_character_set_applicability WHERE id > 0").stdout.decode().split()
+    parts = [found[begin : begin + EACH] for begin in range(0, len(found), EACH)]
+    for number, part in enumerate(parts):
+        columns = ", ".join([f"c{at} SET('', 'a', 'b') COLLATE {collation}" for at, collation in enumerate(part)])
+        rows = ", ".join([f"({bits}{f', {bits}' * len(part)})" for bits in range(8)])
+        trial.server.sql(f"CREATE TABLE {SCHEMA}.t{number} (id INT PRIMARY KEY, {columns}); INSERT INTO {SCHEMA}.t{number} VALUES {rows}")
+    workflow, made = trial.workflow("collated.json", ["-"], [f"{SCHEMA}.t{number}" for number in range(len(parts))]), trial.path("collated.feed")
+    trial.made(trial.program, "transcribe", "--save-to", made, "--shard", "-", "--schema", SCHEMA, workflow, *log_files(trial))
+    trial.same(f"SETs of {len(found)} collations", trial.made(trial.program, "run", workflow, made), trial.selected(workflow, SCHEMA), 8 * len(parts))
+    trial.server.sql(f"DROP DATABASE {SCHEMA}; RESET MASTER")
+
+
 def transcribed(trial) -> None:
-    """Four checks a batch."""
+    """Four checks a batch, and one of all collations."""
     for begin in range(0, ROUNDS, BATCH):
         r = random.Random(f"transcribed {begin}")
         labels = begin // BATCH % 2 == 0
@@ -89,3 +97,4 @@ def transcribed(trial) -> None:
         ends = {_end(trial.made(trial.program, "show", "--keyspace", "ks", "--shard", "-", of)) for of in (feed, made)}
         trial.check(f"transcribed {begin} up to the same position", repr(ends) if len(ends) > 1 else None)
         trial.server.sql(f"DROP DATABASE {SCHEMA}; RESET MASTER; SET GLOBAL binlog_row_metadata=FULL, log_bin_compress=0")
+    collated(trial)

@@ -14,6 +14,8 @@ mod rows;
 #[cfg(test)]
 mod samples;
 #[cfg(test)]
+mod sets;
+#[cfg(test)]
 mod tables;
 #[cfg(test)]
 mod transcribe;

@@ -26,7 +26,7 @@ pub(crate) const UPDATE: &[u8] =
     b"\x16\0\0\0\0\0\x01\0\x05\x1f\x1f\xe0\x07\0\0\0\xff\x03\x02\x02\xe2\x07\0\0\0\x03\x02\x02";
 
 /// Whether cells are these lengths and values.
-fn are(cells: &WrittenCells, lengths: &[u8], values: &[u8]) -> bool {
+pub(crate) fn are(cells: &WrittenCells, lengths: &[u8], values: &[u8]) -> bool {
     cells.lengths.as_slice() == lengths && cells.values.as_slice() == values
 }
 

@@ -2,7 +2,7 @@
 
 use log_events::Size;
 use log_tables::*;
-use log_values::{Fraction, Kind};
+use log_values::{Comma, Fraction, Kind};
 use std::alloc::{AllocError, Global};
 
 /// A table of all types, with what `binlog_row_metadata=FULL` tells.
@@ -19,7 +19,7 @@ pub(crate) const ALL_COLUMNS: &[(&[u8], u32, Kind)] = &[
     (b"n", 10264, Kind::Padded(Size::One, 6)),
     (b"d", 18, Kind::Decimal(10, 2)),
     (b"e", 2074, Kind::Label(Size::One)),
-    (b"f", 2075, Kind::Labels(Size::One)),
+    (b"f", 2075, Kind::Labels(Size::One, Comma::Byte)),
     (b"t", 2063, Kind::Time(Fraction::Three)),
     (b"dt", 2064, Kind::DateTime(Fraction::Six)),
     (b"ts", 2061, Kind::Timestamp(Fraction::Two)),

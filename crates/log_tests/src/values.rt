@@ -99,8 +99,8 @@ const VALUES: &[(Kind, &[u8], &[u8])] = &[
     (Kind::Year, b"\x00", b"0000"),
     (Kind::Label(Size::One), b"\x02", b"y"),
     (Kind::Label(Size::One), b"\x00", b""),
-    (Kind::Labels(Size::One), b"\x05", b"x,z"),
-    (Kind::Labels(Size::One), b"\x00", b""),
+    (Kind::Labels(Size::One, Comma::Byte), b"\x05", b"x,z"),
+    (Kind::Labels(Size::One, Comma::Byte), b"\x00", b""),
     (Kind::Bits(2), b"\x05\x55", b"\x05\x55"),
     (
         Kind::Decimal(65, 30),
@@ -297,7 +297,7 @@ fn values_of_a_server(rt: HostRuntime) -> Result<(), AllocError> {
 /// Values that their types don't have.
 const OUTSIDE: &[(Kind, &[u8])] = &[
     (Kind::Label(Size::One), b"\x04"),
-    (Kind::Labels(Size::One), b"\x08"),
+    (Kind::Labels(Size::One, Comma::Byte), b"\x08"),
     (Kind::Date, b"\xbd\xd1\x0f"),
     (Kind::DateTime(Fraction::Whole), b"\x19\xb2\xbb\x7e\xfb"),
     (Kind::DateTime(Fraction::Whole), b"\x99\xb2\xbb\x8e\xfb"),
