@@ -17,6 +17,7 @@ use Rattle.log_values.specs.declared.fault.ValueFault.TheVariants.{CutValue}
 use Rattle.log_tables.specs.declared.fault.TableFault.{TableFault}
 use Rattle.log_tables.specs.TableMap.{MapValue}
 use Rattle.log_tables.specs.Extra.{part_of}
+use Rattle.log_tables.specs.Collation.{collations_at}
 use Rattle.log_tables.specs.Column.{ColumnValue, WantedValue, Told, column_at, columns_in, columns_of, is_all_told, has_names, signs_told}
 use Rattle.log_rows.specs.declared.change.RowsKind.{RowsKind}
 use Rattle.log_rows.specs.declared.change.RowsKind.TheVariants.{Write, Update, Delete}
@@ -161,8 +162,11 @@ map_columns_many wanted m columns e =
     let enums = given (part_of 6 m.extra) _ columns names.2 in
     let sets = given (part_of 5 m.extra) _ columns enums.2 in
     let signs = given (part_of 1 m.extra) _ columns sets.2 in
-    let all = given_if (has_names wanted names.0) _ _ columns signs.2 in
-    columns_many wanted m.types _ columns all.1
+    let each = given (part_of 11 m.extra) _ columns signs.2 in
+    let most = given (part_of 10 m.extra) _ columns each.2 in
+    let all = given_if (has_names wanted names.0) _ _ columns most.2 in
+    let collations = given (collations_at each.0 most.0) _ columns all.1 in
+    columns_many wanted m.types _ columns collations.2
 
 -- ---- the ROW of a row event
 
