@@ -12,6 +12,7 @@ use crate::left_rows::{LeftRows, rows_up_to};
 use compaction_laws::{bytes_are_compacted, left_rows_have_columns};
 use event_laws::messages_are_read_again;
 use feed_bytes::Cut;
+use pace::Meter;
 use source_feed::{FEED_BYTES, Feed};
 use std::alloc::Global;
 
@@ -32,17 +33,19 @@ pub struct Compaction {
 /// own; what is behind stays byte for byte. That these are the feed's bytes is the caller's.
 ///
 /// Takes time in the bytes, with a search of a key for each touch before the cut, and memory for the rows that are left and
-/// for the new feed; with `UnknownTables::Refused` for the feed's groups once more, before that.
+/// for the new feed; with `UnknownTables::Refused` for the feed's groups once more, before that. A group is a part of the work
+/// for each time that it is looked at.
 ///
 /// Refused in this order: `NoCut` where the feed has no such group; `UnknownTable` where changes of tables that the plan
 /// lacks would be lost and aren't to be left out; `Unsound` for the first of the groups that isn't sound; `TooLong` where
 /// what would be written is beyond the limits. Any other error is want of memory.
-pub fn compact<'h>(
+pub fn compact<'h, M: Meter>(
     alloc: Global,
     bytes: &'h [u8],
     feed: &Feed<'h>,
     number: u32,
     unknown: UnknownTables,
+    meter: &M,
 ) -> Result<Compaction, CompactFault>
     requires { groups_under bytes.now feed.now.plan ≡ Ok feed.now.groups }
     // The new feed opens under the feed's plan as the compacted one, up to just the group of the number.
@@ -55,14 +58,25 @@ pub fn compact<'h>(
     left_rows_have_columns();
     messages_are_read_again();
     feed.plan();
-    let cut = cut(alloc, bytes, feed, number, unknown)?;
-    let rows = rows_up_to(alloc, feed, number)?;
+    meter.begins(parts_of(number, unknown));
+    let cut = cut(alloc, bytes, feed, number, unknown, meter)?;
+    let rows = rows_up_to(alloc, feed, number, meter)?;
     let new = written(alloc, feed, &rows, cut)?;
     Ok(Compaction {
         feed: new,
         groups: number,
         rows: rows.len(),
     })
+}
+
+/// How many parts it has to compact so many groups: each is prepared, and looked through before that where changes of unknown
+/// tables aren't to be left out.
+fn parts_of(number: u32, unknown: UnknownTables) -> usize {
+    let groups = number as usize;
+    match unknown {
+        UnknownTables::Refused => groups.saturating_mul(2),
+        UnknownTables::LeftOut => groups,
+    }
 }
 
 /// The base of a cut feed, and behind it the rest as it stands.

@@ -11,6 +11,7 @@ ghost use Rattle.compaction.specs.declared.fault.CompactFault.TheVariants.{Memor
 use crate::fault::CompactFault;
 use feed_bytes::{Cut, Source, cut_behind};
 use filter_rule::Plan;
+use pace::{Meter, Portions};
 use source_feed::{Feed, Group, Groups, read_groups};
 use std::alloc::Global;
 
@@ -44,30 +45,35 @@ fn has_unknown(plan: &Plan, group: &Group<'_, '_>) -> bool
 }
 
 /// One of the first so many of some groups has a change of a table that the plan lacks.
-fn have_unknown(plan: &Plan, groups: &Groups<'_>, number: u32) -> bool
+fn have_unknown<M: Meter>(plan: &Plan, groups: &Groups<'_>, number: u32, meter: &M) -> bool
     ensures { result ≡ have_unknown plan.now (take number groups.now.items) }
 {
     let mut left = number;
+    let mut portions = Portions::of(meter);
     for group in groups.iter() {
         if left == 0 {
+            portions.tell();
             return false;
         }
         left -= 1;
         if has_unknown(plan, &group) {
             return true;
         }
+        portions.has_done_one();
     }
+    portions.tell();
     false
 }
 
 /// Changes of the feed's groups up to the one of a number would be lost that aren't to be left out. An error is want of
 /// memory: the bytes open as a feed.
-fn would_lose(
+fn would_lose<M: Meter>(
     alloc: Global,
     bytes: &[u8],
     feed: &Feed<'_>,
     number: u32,
     unknown: UnknownTables,
+    meter: &M,
 ) -> Result<bool, CompactFault>
     ensures lost { IfOk result (λ lost. (all : List GroupValue) → groups bytes.now (source_of feed.now.plan) ≡ Ok all → lost ≡ loses feed.now.plan unknown (take number all)) }
     ensures memory { IfErr result (λ fault. fault ≡ Memory) }
@@ -77,7 +83,7 @@ fn would_lose(
     }
     let plan = feed.plan();
     match read_groups(alloc, bytes, plan.keyspace(), plan.shard()) {
-        Ok(groups) => Ok(have_unknown(plan, &groups, number)),
+        Ok(groups) => Ok(have_unknown(plan, &groups, number, meter)),
         Err(_) => Err(CompactFault::Memory),
     }
 }
@@ -86,12 +92,13 @@ fn would_lose(
 ///
 /// Refused as `NoCut` where the feed has no such group, and as `UnknownTable` where changes would be lost that aren't to be
 /// left out. Any other error is want of memory.
-pub(crate) fn cut<'h>(
+pub(crate) fn cut<'h, M: Meter>(
     alloc: Global,
     bytes: &'h [u8],
     feed: &Feed<'h>,
     number: u32,
     unknown: UnknownTables,
+    meter: &M,
 ) -> Result<Cut<'h>, CompactFault>
     requires { groups_under bytes.now feed.now.plan ≡ Ok feed.now.groups }
     ensures cuts { IfOk result (λ cut. CutsFeed feed.now bytes.now unknown number cut.fields.items cut.place.now cut.others cut.rest.now) }
@@ -101,7 +108,7 @@ pub(crate) fn cut<'h>(
     let Some(cut) = cut_behind(alloc, bytes, &source, number)? else {
         return Err(CompactFault::NoCut);
     };
-    if would_lose(alloc, bytes, feed, number, unknown)? {
+    if would_lose(alloc, bytes, feed, number, unknown, meter)? {
         return Err(CompactFault::UnknownTable);
     }
     Ok(cut)

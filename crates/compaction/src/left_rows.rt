@@ -7,6 +7,7 @@ ghost use Rattle.source_feed.specs.FaultNumber.{meant_of};
 ghost use Rattle.compaction_laws.specs.Base.{IsLeft};
 ghost use Rattle.compaction.specs.Private.LeftEntries.{change_of, row_put, rows_of};
 
+use pace::{Meter, Portions};
 use pk_copy::LentKey;
 use row_view::RowBytes;
 use source_feed::{Feed, FeedFault, Prepared, Touch};
@@ -98,14 +99,15 @@ impl<'h> LeftRows<'h> {
 }
 
 /// The rows that the first groups of a feed leave, whether or not they pass. Prepares one group after another and keeps
-/// none, so that memory is taken for the rows and for one group.
+/// none, so that memory is taken for the rows and for one group. Each group is a part that is done.
 ///
 /// That the feed has so many groups is the caller's. Refused 90 for the first of them that isn't sound. Any other error is
 /// want of memory.
-pub fn rows_up_to<'h>(
+pub fn rows_up_to<'h, M: Meter>(
     alloc: Global,
     feed: &Feed<'h>,
     number: u32,
+    meter: &M,
 ) -> Result<LeftRows<'h>, FeedFault>
     requires { number ≤ length feed.now.groups }
     // So many groups of the feed are sound, and these are the rows that they leave.
@@ -114,9 +116,12 @@ pub fn rows_up_to<'h>(
     ensures refused { IfErr result (λ fault. IfSome (meant_of fault) (StopsBefore feed.now number)) }
 {
     let mut rows = LeftRows::new(alloc);
+    let mut portions = Portions::of(meter);
     for done in 0..number {
         let group = feed.prepare(alloc, done + 1)?;
         rows.advance(alloc, &group)?;
+        portions.has_done_one();
     }
+    portions.tell();
     Ok(rows)
 }

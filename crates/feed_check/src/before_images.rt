@@ -10,6 +10,7 @@ use crate::keyed::{KeyedChange, keyed_group};
 use crate::keyed_rows::KeyedRows;
 use crate::replay::Replay;
 use filter_rule::Plan;
+use pace::{Meter, Portions};
 use source_feed::Groups;
 use std::alloc::{AllocError, Global};
 
@@ -31,10 +32,11 @@ fn take_all<'h>(
 /// that doesn't stand where the changes before it were made one after another, from no row on, and a row that
 /// is put where one stands. All rows count, whatever the stream's filter. Takes memory for the rows' keys, in
 /// pages, and for the answer; an error is want of it.
-pub fn findings_of<'h>(
+pub fn findings_of<'h, M: Meter>(
     alloc: Global,
     plan: &Plan,
     groups: &Groups<'h>,
+    meter: &M,
 ) -> Result<Vec<Finding<'h>>, AllocError>
     ensures { IfOk result (λ found. found.items ≡ told.findings_of (keyed_changes plan.now groups.now.items)) }
 {
@@ -42,9 +44,12 @@ pub fn findings_of<'h>(
         rows: KeyedRows::new(alloc),
         findings: Vec::new(alloc),
     };
+    let mut portions = Portions::of(meter);
     for group in groups.iter() {
         let changes = keyed_group(alloc, plan, &group)?;
         take_all(alloc, &mut replay, changes)?;
+        portions.has_done_one();
     }
+    portions.tell();
     Ok(replay.findings)
 }

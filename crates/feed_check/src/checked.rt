@@ -16,6 +16,7 @@ use crate::moves::moves_of;
 use crate::skipped::{Skipped, skipped_of};
 use crate::unknown::unknown_tables;
 use filter_rule::{Plan, Table};
+use pace::{Meter, Portions};
 use pk_copy::LentKey;
 use row_view::RowBytes;
 use source_feed::{Feed, FeedFault, Image, Prepared, Put, Touch, read_groups};
@@ -55,38 +56,71 @@ fn number_at(place: usize) -> u32
 }
 
 /// The groups of a feed with their touches.
-fn prepare_all<'h>(alloc: Global, feed: &Feed<'h>) -> Result<Vec<Arc<Prepared<'h>>>, FeedFault>
+fn prepare_all<'h, M: Meter>(
+    alloc: Global,
+    feed: &Feed<'h>,
+    meter: &M,
+) -> Result<Vec<Arc<Prepared<'h>>>, FeedFault>
     ensures { GivesUnless meant_of (λ groups. map arc_value groups.items) result (history_of feed.now) }
 {
     // (for its contract: a feed has fewer than 2^31 groups)
     feed.plan();
     let mut groups = Vec::with_capacity(alloc, feed.len())?;
+    let mut portions = Portions::of(meter);
     for i in 0..feed.len() {
         let group = feed.prepare(alloc, number_at(i))?;
         groups.push(group)?;
+        portions.has_done_one();
     }
+    portions.tell();
     Ok(groups)
 }
 
-/// Checks a feed that was opened of these bytes: each group is prepared, and all changes are replayed.
+/// How often a check goes through the groups of a feed: to prepare them, for the rows that they leave, to read their
+/// changes, to replay these, for those that move a row, for names, and for events that are passed over.
+const TIMES: usize = 7;
+
+/// Tells how many parts it has to check a feed: a group is one each time.
+fn begin<M: Meter>(feed: &Feed<'_>, meter: &M) {
+    meter.begins(feed.len().saturating_mul(TIMES));
+}
+
+/// Checks a feed that was opened of these bytes: each group is prepared, and all changes are replayed. The meter is told of
+/// each group for each time that it is gone through.
 ///
 /// Refused as `Feed::prepare` refuses the first group that isn't sound. Any other error is want of memory.
 /// Where the bytes aren't those of the feed it is refused as `read_groups` refuses them.
-pub fn check_feed<'h>(
+pub fn check_feed<'h, M: Meter>(
     alloc: Global,
     bytes: &'h [u8],
     feed: &Feed<'h>,
+    meter: &M,
 ) -> Result<Checked<'h>, FeedFault>
     ensures { GivesUnless meant_of (λ check. check) result (checked bytes.now feed.now) }
 {
-    let groups = prepare_all(alloc, feed)?;
-    let image = last_rows(alloc, &groups)?;
+    begin(feed, meter);
+    check_begun(alloc, bytes, feed, meter)
+}
+
+/// The same where it was told how many parts it has.
+fn check_begun<'h, M: Meter>(
+    alloc: Global,
+    bytes: &'h [u8],
+    feed: &Feed<'h>,
+    meter: &M,
+) -> Result<Checked<'h>, FeedFault>
+    ensures { GivesUnless meant_of (λ check. check) result (checked bytes.now feed.now) }
+{
+    let groups = prepare_all(alloc, feed, meter)?;
+    let image = last_rows(alloc, &groups, meter)?;
     let plan = feed.plan();
     let read = read_groups(alloc, bytes, plan.keyspace(), plan.shard())?;
-    let findings = findings_of(alloc, plan, &read)?;
-    let moves = moves_of(alloc, plan, &read)?;
-    let unknown = unknown_tables(alloc, plan, &read)?;
+    meter.has_done(feed.len());
+    let findings = findings_of(alloc, plan, &read, meter)?;
+    let moves = moves_of(alloc, plan, &read, meter)?;
+    let unknown = unknown_tables(alloc, plan, &read, meter)?;
     let skipped = skipped_of(alloc, bytes)?;
+    meter.has_done(feed.len());
     Ok(Checked {
         plan: Arc::clone(plan)?,
         groups,
@@ -170,20 +204,30 @@ fn bytes_at<'h>(bytes: &[&'h [u8]], place: usize) -> Option<&'h [u8]>
     }
 }
 
-/// Checks feeds, each opened of the bytes at its place, one after another, up to the first refusal.
-pub fn check_feeds<'h>(
+/// Tells how many parts it has to check feeds.
+fn begin_all<M: Meter>(feeds: &[Feed<'_>], meter: &M) {
+    for feed in feeds {
+        begin(feed, meter);
+    }
+}
+
+/// Checks feeds, each opened of the bytes at its place, one after another, up to the first refusal. The meter is told first
+/// how many parts all have.
+pub fn check_feeds<'h, M: Meter>(
     alloc: Global,
     bytes: &[&'h [u8]],
     feeds: &[Feed<'h>],
+    meter: &M,
 ) -> Result<Vec<Checked<'h>>, FeedFault>
     ensures { GivesUnless meant_of (λ checks. checks.items) result (checked_feeds (map (λ one. one.now) bytes.now) feeds.now) }
 {
+    begin_all(feeds, meter);
     let mut checks = Vec::with_capacity(alloc, feeds.len())?;
     for i in 0..feeds.len() {
         let Some(one) = bytes_at(bytes, i) else {
             return Ok(checks);
         };
-        let check = check_feed(alloc, one, &feeds[i])?;
+        let check = check_begun(alloc, one, &feeds[i], meter)?;
         checks.push(check)?;
     }
     Ok(checks)

@@ -6,6 +6,7 @@ ghost use Rattle.source_feed.specs.Image.{lent_row};
 ghost use Rattle.feed_check.specs.Checked.{rows_at_end, rows_of_table};
 
 use board_laws::kept_rows_are_one_list;
+use pace::{Meter, Portions};
 use pk_copy::LentKey;
 use row_view::RowBytes;
 use source_feed::{Image, Prepared};
@@ -13,17 +14,21 @@ use std::alloc::{AllocError, Global};
 use std::sync::Arc;
 
 /// The rows that all groups leave, of those that pass. An error is want of memory.
-pub(crate) fn last_rows<'h>(
+pub(crate) fn last_rows<'h, M: Meter>(
     alloc: Global,
     groups: &[Arc<Prepared<'h>>],
+    meter: &M,
 ) -> Result<Image<'h>, AllocError>
     ensures { IfOk result (λ image. image ≡ rows_at_end (map arc_value groups.now)) }
 {
     kept_rows_are_one_list();
     let mut image = Image::new(alloc);
+    let mut portions = Portions::of(meter);
     for group in groups {
         image.advance(alloc, group)?;
+        portions.has_done_one();
     }
+    portions.tell();
     Ok(image)
 }
 

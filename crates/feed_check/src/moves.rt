@@ -9,6 +9,7 @@ ghost use Rattle.feed_check.specs.Findings as told;
 use crate::finding::{Doubt, Finding};
 use crate::keyed::{KeyedChange, KeyedRow, keyed_group};
 use filter_rule::Plan;
+use pace::{Meter, Portions};
 use pk_copy::LentKey;
 use source_feed::Groups;
 use std::alloc::{AllocError, Global};
@@ -75,17 +76,21 @@ fn push_all<'h>(
 
 /// The updates of groups to the plan's tables that put a row at another key, in order. An error is want of
 /// memory.
-pub fn moves_of<'h>(
+pub fn moves_of<'h, M: Meter>(
     alloc: Global,
     plan: &Plan,
     groups: &Groups<'h>,
+    meter: &M,
 ) -> Result<Vec<Finding<'h>>, AllocError>
     ensures { IfOk result (λ moves. moves.items ≡ told.moves_of (keyed_changes plan.now groups.now.items)) }
 {
     let mut moves = Vec::new(alloc);
+    let mut portions = Portions::of(meter);
     for group in groups.iter() {
         let changes = keyed_group(alloc, plan, &group)?;
         push_all(alloc, &changes, &mut moves)?;
+        portions.has_done_one();
     }
+    portions.tell();
     Ok(moves)
 }

@@ -5,6 +5,7 @@ ghost use Rattle.feed_check.specs.Private.SeenNames.{HasNames, texts};
 ghost use Rattle.feed_check.specs.Unknown.{with_name, unknown_in, unknown_tables};
 
 use filter_rule::Plan;
+use pace::{Meter, Portions};
 use source_feed::{GroupChanges, Groups};
 use std::alloc::{AllocError, Global};
 use std::collections::BTreeSet;
@@ -48,17 +49,21 @@ fn push_changes<'h>(
 
 /// The names in groups that no table of the plan has, each once, in the order in which they first stand. Takes
 /// time in the changes, for each the logarithm of the names that were told. An error is want of memory.
-pub fn unknown_tables<'h>(
+pub fn unknown_tables<'h, M: Meter>(
     alloc: Global,
     plan: &Plan,
     groups: &Groups<'h>,
+    meter: &M,
 ) -> Result<Vec<&'h str>, AllocError>
     ensures { IfOk result (λ told. map (λ one. one.now) told.items ≡ unknown_tables plan.now groups.now.items) }
 {
     let mut told = Vec::new(alloc);
     let mut seen = BTreeSet::new(alloc);
+    let mut portions = Portions::of(meter);
     for group in groups.iter() {
         push_changes(plan, group.changes(), &mut told, &mut seen)?;
+        portions.has_done_one();
     }
+    portions.tell();
     Ok(told)
 }

@@ -13,6 +13,7 @@ use crate::stating::{StatusInputs, read_status, state};
 use crate::telling::{Hushing, Teller};
 use crate::tiling::tile;
 use crate::{course_of, show_feed};
+use pace::Unmetered;
 use std::alloc::{AllocError, Global};
 use std::sync::Wait;
 use std::thread::Threads;
@@ -202,7 +203,7 @@ fn answer<T: Threads + Wait + Sync, G: Progress + Sync, W: Out, E: Out>(
         Asked::Check(inputs) => report(alloc, inputs, out, err),
         Asked::Tiles(inputs) => tile(alloc, inputs, out, err),
         Asked::Status(inputs) => state(alloc, inputs, out, err),
-        Asked::Compact(inputs) => compact(alloc, inputs, out, err),
+        Asked::Compact(inputs) => compact(alloc, inputs, &Unmetered, out, err),
         Asked::Feed(inputs) => feed(alloc, inputs, out, err),
     }
 }

@@ -7,6 +7,7 @@ ghost use Rattle.vrepl_main.specs.Inputs.{IsUnreadAmong};
 ghost use Rattle.vrepl_main.specs.declared.input.InputName.TheVariants.{File};
 
 use crate::telling::Teller;
+use pace::Unmetered;
 use std::alloc::Global;
 use vdiff_core::Out;
 use vrepl_check::{CheckInputs, check, print_place};
@@ -47,7 +48,7 @@ pub(crate) fn report<W: Out, E: Out>(
     ensures ends { ReportEnds inputs.now result (W.written out.old) (W.written out.new) (E.written err.old) }
     ensures quiet { result ≢ 1 → err.new ≡ err.old }
 {
-    let status = check(alloc, inputs, out, err);
+    let status = check(alloc, inputs, &Unmetered, out, err);
     if status == 1 {
         print_place(alloc, inputs, err);
     }

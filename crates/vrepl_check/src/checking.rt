@@ -11,6 +11,7 @@ use crate::inputs::CheckInputs;
 use crate::placing::place_as_json;
 use check_said::Said;
 use feed_check::{Checked, check_feeds, checks_warn_unless_feeds_are_faultless};
+use pace::Meter;
 use std::alloc::{AllocError, Global};
 use vdiff_core::Out;
 use vrepl_main::{CommandRefusal, GivenFeed, given_feeds, open_workflow};
@@ -28,10 +29,11 @@ use vrepl_refusal::refuse_as;
 /// first group that isn't sound. As JSON all is one line, which has every thing that is told and not the first ten of
 /// a kind. Answers the status: 0 where nothing is warned of, and so the workflow and its feeds are without a fault, and
 /// where it is to be strict nothing is noted either, and so they are clean; 3 where something is; 1 after a refusal, also
-/// of memory.
-pub fn check<W: Out, E: Out>(
+/// of memory. The meter is told how far the check of the feeds is.
+pub fn check<M: Meter, W: Out, E: Out>(
     alloc: Global,
     inputs: &CheckInputs<'_, '_>,
+    meter: &M,
     out: &mut W,
     err: &mut E,
 ) -> u8
@@ -41,7 +43,7 @@ pub fn check<W: Out, E: Out>(
     ensures good { result ≢ 1 → (result ≡ 0) ↔ IsGood inputs.now.strict inputs.now }
 {
     checks_warn_unless_feeds_are_faultless();
-    match print_check(alloc, inputs, out) {
+    match print_check(alloc, inputs, meter, out) {
         Ok(false) => 0,
         Ok(true) => 3,
         Err(refusal) => {
@@ -53,23 +55,25 @@ pub fn check<W: Out, E: Out>(
 
 /// Prints the report on a workflow and its feeds, which may be given as hexadecimal text, and answers whether it finds
 /// anything; prints nothing where there is none.
-fn print_check<W: Out>(
+fn print_check<M: Meter, W: Out>(
     alloc: Global,
     inputs: &CheckInputs<'_, '_>,
+    meter: &M,
     out: &mut W,
 ) -> Result<bool, CommandRefusal<'static>>
     ensures found { IfOk result (λ found. IsFound inputs.now.strict found (report_asked inputs.now)) }
     ensures printed { PrintsText result (text_of_report (report_asked inputs.now)) (W.written out.old) (W.written out.new) }
 {
     let given = given_feeds(alloc, inputs.feed_form, &inputs.feeds)?;
-    print_given(alloc, inputs, &given, out)
+    print_given(alloc, inputs, &given, meter, out)
 }
 
 /// The same of feeds whose bytes are given.
-fn print_given<W: Out>(
+fn print_given<M: Meter, W: Out>(
     alloc: Global,
     inputs: &CheckInputs<'_, '_>,
     given: &[GivenFeed<'_>],
+    meter: &M,
     out: &mut W,
 ) -> Result<bool, CommandRefusal<'static>>
     ensures found { IfOk result (λ found. IsFound inputs.now.strict found (report_of_feeds inputs.now (map given_value given.now))) }
@@ -77,7 +81,7 @@ fn print_given<W: Out>(
 {
     let opened = open_workflow(alloc, &inputs.workflow, given)?;
     let bytes = bytes_given(alloc, given)?;
-    let checks = check_feeds(alloc, &bytes, &opened.feeds)?;
+    let checks = check_feeds(alloc, &bytes, &opened.feeds, meter)?;
     print_said(alloc, inputs, &checks, out)
 }
 

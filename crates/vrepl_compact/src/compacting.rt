@@ -14,6 +14,7 @@ use crate::opening::{given_feed, open_feed, plan_of, read_plans};
 use crate::refusal::{Uncompacted, refuse_uncompacted};
 use compaction::{CompactFault, Compaction, compact as compact_feed};
 use filter_rule::Plan;
+use pace::Meter;
 use source_feed::Feed;
 use std::alloc::{AllocError, Global};
 use std::sync::Arc;
@@ -31,17 +32,18 @@ pub struct NewFeed {
 
 /// Compacts the feed of a stream of a workflow, and prints the new feed on `out`; or prints the line of a refusal on `err`
 /// and then nothing on `out`, unless it is `out` that can't be written. Answers the status: 0, or 1 after a refusal, also of
-/// memory.
-pub fn compact<W: Out, E: Out>(
+/// memory. The meter is told how far the compaction is.
+pub fn compact<M: Meter, W: Out, E: Out>(
     alloc: Global,
     inputs: &CompactInputs<'_>,
+    meter: &M,
     out: &mut W,
     err: &mut E,
 ) -> u8
     ensures ends { CompactEnds inputs.now result (W.written out.old) (W.written out.new) (E.written err.old) (E.written err.new) }
     ensures quiet { result ≡ 0 → err.new ≡ err.old }
 {
-    match compacted(alloc, inputs) {
+    match compacted(alloc, inputs, meter) {
         Ok(compacted) => print_feed(&compacted.made.feed, out, err),
         Err(uncompacted) => refuse_uncompacted(err, uncompacted),
     }
@@ -62,77 +64,85 @@ fn print_feed<W: Out, E: Out>(feed: &[u8], out: &mut W, err: &mut E) -> u8
 /// order: those of the workflow; 115 where it has no such stream; 93 and the feed's own; of a position that is named 94 and
 /// 118; of each checkpoint 116 and 118; 91 where the feed has no group to be replaced; 123; 90; 95 where the new feed would
 /// be too long. Any other error is want of memory.
-pub fn compacted(alloc: Global, inputs: &CompactInputs<'_>) -> Result<NewFeed, Uncompacted>
+pub fn compacted<M: Meter>(
+    alloc: Global,
+    inputs: &CompactInputs<'_>,
+    meter: &M,
+) -> Result<NewFeed, Uncompacted>
     ensures compacted { IfOk result (λ c. IsCompacted inputs.now (compact_asked inputs.now) c.made.groups c.made.rows c.made.feed.items) }
     ensures refused { IfErr result (λ uncompacted. RefusesCompact inputs.now uncompacted (compact_asked inputs.now)) }
 {
     let plans = read_plans(alloc, &inputs.workflow)?;
-    let new = compacted_under(alloc, inputs, &plans)?;
+    let new = compacted_under(alloc, inputs, &plans, meter)?;
     Ok(new)
 }
 
 /// The same under the plans of the workflow.
-fn compacted_under(
+fn compacted_under<M: Meter>(
     alloc: Global,
     inputs: &CompactInputs<'_>,
     plans: &[Arc<Plan>],
+    meter: &M,
 ) -> Result<NewFeed, Uncompacted>
     ensures compacted { IfOk result (λ c. IsCompacted inputs.now (asked_under inputs.now (map arc_value plans.now)) c.made.groups c.made.rows c.made.feed.items) }
     ensures refused { IfErr result (λ uncompacted. RefusesCompact inputs.now uncompacted (asked_under inputs.now (map arc_value plans.now))) }
 {
     let plan = plan_of(plans, inputs.stream)?;
     let given = given_feed(alloc, inputs.feed_form, &inputs.feed)?;
-    let new = compacted_as(alloc, inputs, plans, plan, &given)?;
+    let new = compacted_as(alloc, inputs, plans, plan, &given, meter)?;
     Ok(new)
 }
 
 /// The same of the feed as it is given, under the plan of its stream, which is one of these.
-fn compacted_as(
+fn compacted_as<M: Meter>(
     alloc: Global,
     inputs: &CompactInputs<'_>,
     plans: &[Arc<Plan>],
     plan: &Arc<Plan>,
     given: &GivenFeed<'_>,
+    meter: &M,
 ) -> Result<NewFeed, Uncompacted>
     ensures compacted { IfOk result (λ c. IsCompacted inputs.now (asked_as (map arc_value plans.now) (given_value given.now) (arc_value plan.now)) c.made.groups c.made.rows c.made.feed.items) }
     ensures refused { IfErr result (λ uncompacted. RefusesCompact inputs.now uncompacted (asked_as (map arc_value plans.now) (given_value given.now) (arc_value plan.now))) }
 {
     match given.bytes() {
         None => Err(Uncompacted::Given(CommandRefusal::BadHex)),
-        Some(bytes) => compacted_of(alloc, inputs, plans, plan, bytes),
+        Some(bytes) => compacted_of(alloc, inputs, plans, plan, bytes, meter),
     }
 }
 
 /// The same of the feed of these bytes.
-fn compacted_of(
+fn compacted_of<M: Meter>(
     alloc: Global,
     inputs: &CompactInputs<'_>,
     plans: &[Arc<Plan>],
     plan: &Arc<Plan>,
     bytes: &[u8],
+    meter: &M,
 ) -> Result<NewFeed, Uncompacted>
     ensures compacted { IfOk result (λ c. IsCompacted inputs.now (asked_of (map arc_value plans.now) (arc_value plan.now) bytes.now) c.made.groups c.made.rows c.made.feed.items) }
     ensures refused { IfErr result (λ uncompacted. RefusesCompact inputs.now uncompacted (asked_of (map arc_value plans.now) (arc_value plan.now) bytes.now)) }
 {
     let feed = open_feed(alloc, bytes, plan)?;
-    let new = compacted_feed(alloc, inputs, plans, bytes, &feed)?;
+    let new = compacted_feed(alloc, inputs, plans, bytes, &feed, meter)?;
     Ok(new)
 }
 
 /// The same of a feed that is open, of which these are the bytes.
-fn compacted_feed<'h>(
+fn compacted_feed<'h, M: Meter>(
     alloc: Global,
     inputs: &CompactInputs<'_>,
     plans: &[Arc<Plan>],
     bytes: &'h [u8],
     feed: &Feed<'h>,
+    meter: &M,
 ) -> Result<NewFeed, Uncompacted>
     requires { groups_under bytes.now feed.now.plan ≡ Ok feed.now.groups }
     ensures compacted { IfOk result (λ c. IsCompacted inputs.now (Ok (record { plans = map arc_value plans.now; bytes = bytes.now; feed = feed.now })) c.made.groups c.made.rows c.made.feed.items) }
     ensures refused { IfErr result (λ uncompacted. RefusesCompact inputs.now uncompacted (Ok (record { plans = map arc_value plans.now; bytes = bytes.now; feed = feed.now }))) }
 {
     let number = last_replaced(alloc, inputs, plans, feed)?;
-    let made = match compact_feed(alloc, bytes, feed, number, inputs.unknown) {
+    let made = match compact_feed(alloc, bytes, feed, number, inputs.unknown, meter) {
         Ok(made) => made,
         Err(fault) => return Err(uncompacted_by(feed, fault)),
     };

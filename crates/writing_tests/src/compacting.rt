@@ -2,6 +2,7 @@
 
 use compaction::{CompactFault, Compaction, UnknownTables, compact};
 use filter_rule::Plan;
+use pace::Unmetered;
 use source_feed::{Feed, FeedFault};
 use std::alloc::Global;
 
@@ -59,7 +60,7 @@ fn compacted(
     let plans = Plan::read_all(alloc, WORKFLOW).ok()?;
     let plan = plans.first()?;
     let feed = Feed::open(alloc, bytes, plan).ok()?;
-    Some(compact(alloc, bytes, &feed, number, unknown))
+    Some(compact(alloc, bytes, &feed, number, unknown, &Unmetered))
 }
 
 /// A feed compacted up to a group is this one, with so many groups replaced by so many rows.

@@ -4,24 +4,24 @@ use Rattle.compaction.proofs.CompactLaws.{is_compaction, limit_stands, unsound_s
 use Rattle.compaction.proofs.compacting.compact.Goals as goal
 
 pub written-requires : goal.written-requires
-written-requires c =
+written-requires g c =
     let cut = c.in_ok-cut.cut in
     all_named c.left_rows_have_columns.ensures c.args.feed.now c.args.bytes.now c.args.unknown c.args.number cut.fields.items cut.place.now cut.others cut.rest.now c.in_ok-rows.rows c.plan.ensures.whole c.requires
     c.in_ok-cut.ensures.cuts c.in_ok-rows.ensures.sound c.in_ok-rows.ensures.left
 
 pub returns-clause-compacted : goal.returns-clause-compacted
-returns-clause-compacted c =
+returns-clause-compacted g c =
     let cut = c.in_ok-cut.cut in
     let w = c.in_ok-new.ensures in
     is_compaction c.bytes_are_compacted.ensures c.messages_are_read_again.ensures c.args.feed.now c.args.bytes.now c.args.unknown c.args.number cut.fields.items cut.place.now cut.others cut.rest.now w.base c.in_ok-rows.rows
     c.plan.ensures.whole c.requires c.in_ok-cut.ensures.cuts c.in_ok-rows.ensures.sound c.in_ok-rows.ensures.left w.adds c.in_ok-new.new.items w.parts w.short c.len.result c.len.ensures
 
 pub returns-in_err-rows-clause-cause : goal.returns-in_err-rows-clause-cause
-returns-in_err-rows-clause-cause c =
+returns-in_err-rows-clause-cause g c =
     let p = err_from_is_err_and c.from_residual-in_err-rows.result c.from_residual-in_err-rows.ensures.1 in
     rw (p.1, p.2) (unsound_stands c.args.feed.now c.args.bytes.now c.args.unknown c.args.number c.in_err-rows.field-0.0 c.in_ok-cut.ensures.cuts.has c.in_ok-cut.ensures.cuts.keeps c.in_err-rows.ensures.refused)
 
 pub returns-in_err-new-clause-cause : goal.returns-in_err-new-clause-cause
-returns-in_err-new-clause-cause c =
+returns-in_err-new-clause-cause g c =
     let p = err_from_is_err_and c.from_residual-in_err-new.result c.from_residual-in_err-new.ensures.1 in
     rw p.1 (limit_stands c.args.feed.now c.args.bytes.now c.args.unknown c.args.number p.0 c.in_ok-cut.ensures.cuts.has c.in_ok-cut.ensures.cuts.keeps c.in_ok-rows.ensures.sound p.2)

@@ -7,7 +7,7 @@ use Rattle.compaction.proofs.CutLaws.{cuts, loses_some}
 use Rattle.compaction.proofs.cut.cut.Goals as goal
 
 pub returns-then-branch-clause-cause : goal.returns-then-branch-clause-cause
-returns-then-branch-clause-cause c =
+returns-then-branch-clause-cause g c =
     let bytes = c.args.bytes.now in
     let number = c.args.number in
     let source = c.source_for-source.result in
@@ -19,7 +19,7 @@ returns-then-branch-clause-cause c =
     loses_some c.args.feed.now bytes c.args.unknown number f.fields.items f.place.now f.others f.rest.now c.in_ok-would_lose.field-0 c.requires found c.in_ok-would_lose.ensures.lost c.if-branch.true
 
 pub returns-clause-cuts : goal.returns-clause-cuts
-returns-clause-cuts c =
+returns-clause-cuts g c =
     let bytes = c.args.bytes.now in
     let number = c.args.number in
     let source = c.source_for-source.result in

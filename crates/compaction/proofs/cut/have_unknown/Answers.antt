@@ -5,7 +5,7 @@ use Rattle.compaction.proofs.CutLaws.{skip_none}
 use Rattle.compaction.proofs.cut.have_unknown.Goals as goal
 
 pub loop-group-preserved : goal.loop-group-preserved
-loop-group-preserved c =
+loop-group-preserved g c =
     let plan = c.args.plan.now in
     let left = c.loop-group.left in
     let said = c.has_unknown.ensures in

@@ -9,12 +9,12 @@ use Rattle.feed_check.proofs.CheckLaws.{check-goes, check-stops, no_bytes, no_fe
 use Rattle.feed_check.proofs.checked.check_feeds.Goals as goal
 
 pub loop-i-init : goal.loop-i-init
-loop-i-init c =
+loop-i-init g c =
     let none : c.in_ok-checks.checks.items ≡ [] = search rules in
     starts (checked_feeds (map (λ one. one.now) c.args.bytes.now) c.args.feeds.now) c.in_ok-checks.checks.items none
 
 pub loop-i-preserved : goal.loop-i-preserved
-loop-i-preserved c =
+loop-i-preserved g c =
     let all = map (λ one. one.now) c.args.bytes.now in
     let within : c.loop-i.i < length c.args.feeds.now = search rules in
     let grown : c.push.new.self.items ≡ c.loop-i.checks.items ++ c.in_ok-check.check ∷ [] = search rules in
@@ -23,13 +23,13 @@ loop-i-preserved c =
     (c.loop-i.invariant ∙ check-goes all c.args.feeds.now c.loop-i.i c.in-Some.one.now c.index-feeds-i.result c.loop-i.checks.items c.in_ok-check.check there within c.index-feeds-i.is c.in_ok-check.ensures)
 
 pub returns-in_default : goal.returns-in_default
-returns-in_default c =
+returns-in_default g c =
     let all = map (λ one. one.now) c.args.bytes.now in
     let none : slice_get all c.loop-i.i ≡ None = search rules in
     c.loop-i.invariant ∙ no_bytes all c.loop-i.i (drop c.loop-i.i c.args.feeds.now) c.loop-i.checks.items none
 
 pub returns-in_err-check : goal.returns-in_err-check
-returns-in_err-check c =
+returns-in_err-check g c =
     let all = map (λ one. one.now) c.args.bytes.now in
     let p = err_from_is_err_and c.from_residual-in_err-check.result c.from_residual-in_err-check.ensures.1 in
     let within : c.loop-i.i < length c.args.feeds.now = search rules in
@@ -37,7 +37,7 @@ returns-in_err-check c =
     rw (p.1, p.2) (check-stops all c.args.feeds.now c.loop-i.i c.in-Some.one.now c.index-feeds-i.result c.loop-i.checks.items (checked_feeds all c.args.feeds.now) c.in_err-check.field-0.0 there within c.index-feeds-i.is c.in_err-check.ensures c.loop-i.invariant)
 
 pub returns : goal.returns
-returns c =
+returns g c =
     let all = map (λ one. one.now) c.args.bytes.now in
     c.loop-i.invariant
     ∙ ap (λ feeds. in_front c.loop-i.checks.items (checked_feeds (drop c.loop-i.i all) feeds)) (drop_all c.loop-i.i c.args.feeds.now (search rules))

@@ -8,4 +8,4 @@ use Rattle.feed_check.proofs.checked.prepare_all.Given as goal
 
 -- the groups so far stand in front of those that are left
 abbrev pub invariant-loop-i : goal.invariant-loop-i
-invariant-loop-i l = history_of l.feed ≡ in_front (map arc_value l.groups.items) (each (prepared l.feed.plan) (drop l.i l.feed.groups))
+invariant-loop-i g l = history_of l.feed ≡ in_front (map arc_value l.groups.items) (each (prepared l.feed.plan) (drop l.i l.feed.groups))

@@ -7,27 +7,27 @@ use Rattle.vrepl_compact.proofs.AskedLaws.{compacted_behind, opened_as, refused_
 use Rattle.vrepl_compact.proofs.compacting.compacted_of.Goals as goal
 
 pub compacted_feed-requires : goal.compacted_feed-requires
-compacted_feed-requires c =
+compacted_feed-requires g c =
     let plan = arc_value c.args.plan.now in
     let opened = opened_as plan (groups_under c.args.bytes.now plan) c.in_ok-feed.feed c.in_ok-feed.ensures in
     subst (λ p. groups_under c.args.bytes.now p ≡ Ok c.in_ok-feed.feed.groups) (sym opened.1) opened.0
 
 pub returns-clause-compacted : goal.returns-clause-compacted
-returns-clause-compacted c =
+returns-clause-compacted g c =
     let plan = arc_value c.args.plan.now in
     let made = c.in_ok-new.new.made in
     compacted_behind c.args.inputs.now (feed_under plan (groups_under c.args.bytes.now plan)) (λ feed. Ok (record { plans = map arc_value c.args.plans.now; bytes = c.args.bytes.now; feed = feed }))
     c.in_ok-feed.feed made.groups made.rows made.feed.items c.in_ok-feed.ensures c.in_ok-new.ensures.compacted
 
 pub returns-in_err-feed-clause-refused : goal.returns-in_err-feed-clause-refused
-returns-in_err-feed-clause-refused c =
+returns-in_err-feed-clause-refused g c =
     let plan = arc_value c.args.plan.now in
     let p = err_from_is_err_and c.from_residual.result c.from_residual.ensures.1 in
     rw (p.1, p.2)
     (refused_at c.in_err-feed.field-0.0 (feed_under plan (groups_under c.args.bytes.now plan)) (λ feed. Ok (record { plans = map arc_value c.args.plans.now; bytes = c.args.bytes.now; feed = feed })) c.in_err-feed.ensures)
 
 pub returns-in_err-new-clause-refused : goal.returns-in_err-new-clause-refused
-returns-in_err-new-clause-refused c =
+returns-in_err-new-clause-refused g c =
     let plan = arc_value c.args.plan.now in
     let p = err_from_is_err_and c.from_residual-in_err-new.result c.from_residual-in_err-new.ensures.1 in
     rw (p.1, p.2)

@@ -7,7 +7,7 @@ use Rattle.vrepl_compact.proofs.AskedLaws.{compacted_behind, refused_at, refused
 use Rattle.vrepl_compact.proofs.compacting.compacted_under.Goals as goal
 
 pub returns-clause-compacted : goal.returns-clause-compacted
-returns-clause-compacted c =
+returns-clause-compacted g c =
     let inputs = c.args.inputs.now in
     let plans = map arc_value c.args.plans.now in
     let made = c.in_ok-new.new.made in
@@ -15,19 +15,19 @@ returns-clause-compacted c =
     c.in_ok-plan.ensures.plan (rw (rw c.deref.ensures.value at c.in_ok-given.ensures) at c.in_ok-new.ensures.compacted)
 
 pub returns-in_err-plan-clause-refused : goal.returns-in_err-plan-clause-refused
-returns-in_err-plan-clause-refused c =
+returns-in_err-plan-clause-refused g c =
     let inputs = c.args.inputs.now in
     let plans = map arc_value c.args.plans.now in
     let p = err_from_is_err_and c.from_residual.result c.from_residual.ensures.1 in
     rw (p.1, p.2) (refused_at c.in_err-plan.field-0.0 (plan_or_none (slice_get plans inputs.stream)) (asked_as plans (feed_bytes inputs.feed_form inputs.feed.items)) c.in_err-plan.ensures.refused)
 
 pub returns-in_err-given-clause-refused : goal.returns-in_err-given-clause-refused
-returns-in_err-given-clause-refused c =
+returns-in_err-given-clause-refused g c =
     let p = err_from_is_err_and c.from_residual-in_err-given.result c.from_residual-in_err-given.ensures.1 in
     rw (p.1, p.2) tt
 
 pub returns-in_err-new-clause-refused : goal.returns-in_err-new-clause-refused
-returns-in_err-new-clause-refused c =
+returns-in_err-new-clause-refused g c =
     let inputs = c.args.inputs.now in
     let plans = map arc_value c.args.plans.now in
     let p = err_from_is_err_and c.from_residual-in_err-new.result c.from_residual-in_err-new.ensures.1 in
