@@ -1,7 +1,8 @@
 //! What stands behind the arguments in a help: an example with what it prints, and the statuses.
 
 /// The program's version, and the sum of the sources that it is built of, which `scripts/stamp` writes over the zeros.
-pub(crate) const VERSION: &str = "1.0.0, sources 0000000000000000000000000000000000000000000000000000000000000000";
+pub(crate) const VERSION: &str =
+    "1.0.0, sources 0000000000000000000000000000000000000000000000000000000000000000";
 
 /// The statuses of the program.
 pub(crate) const STATUSES: &str = "\
