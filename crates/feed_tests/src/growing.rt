@@ -124,12 +124,22 @@ fn is_wanted_however_cut(
 
 #[test]
 fn one_row_cut_at_every_byte(rt: HostRuntime) {
-    assert!(rt; matches!(is_wanted_however_cut(rt.alloc(), ONE_ROW, &Wanted::Whole, 1), Ok(true)));
+    assert!(rt;
+        matches!(
+            is_wanted_however_cut(rt.alloc(), ONE_ROW, &Wanted::Whole, 1),
+            Ok(true)
+        )
+    );
 }
 
 #[test]
 fn three_groups_cut_at_every_byte(rt: HostRuntime) {
-    assert!(rt; matches!(is_wanted_however_cut(rt.alloc(), THREE_GROUPS, &Wanted::Whole, 7), Ok(true)));
+    assert!(rt;
+        matches!(
+            is_wanted_however_cut(rt.alloc(), THREE_GROUPS, &Wanted::Whole, 7),
+            Ok(true)
+        )
+    );
 }
 
 /// A transaction in messages of its own for each event.
@@ -138,7 +148,12 @@ const ONE_EVENT_A_MESSAGE: &[u8] =
 
 #[test]
 fn one_event_a_message_cut_at_every_byte(rt: HostRuntime) {
-    assert!(rt; matches!(is_wanted_however_cut(rt.alloc(), ONE_EVENT_A_MESSAGE, &Wanted::Whole, 1), Ok(true)));
+    assert!(rt;
+        matches!(
+            is_wanted_however_cut(rt.alloc(), ONE_EVENT_A_MESSAGE, &Wanted::Whole, 1),
+            Ok(true)
+        )
+    );
 }
 
 /// The same without its COMMIT, behind a whole group: what is taken is the group.
@@ -147,7 +162,12 @@ const OPEN_AT_ITS_END: &[u8] =
 
 #[test]
 fn open_transaction_is_not_taken(rt: HostRuntime) {
-    assert!(rt; matches!(is_wanted_however_cut(rt.alloc(), OPEN_AT_ITS_END, &Wanted::CutShort(47), 1), Ok(true)));
+    assert!(rt;
+        matches!(
+            is_wanted_however_cut(rt.alloc(), OPEN_AT_ITS_END, &Wanted::CutShort(47), 1),
+            Ok(true)
+        )
+    );
 }
 
 /// Two positions of one uuid, and one of another uuid behind them.
@@ -156,7 +176,17 @@ const DIVERGED: &[u8] =
 
 #[test]
 fn position_that_does_not_grow_across_pieces(rt: HostRuntime) {
-    assert!(rt; matches!(is_wanted_however_cut(rt.alloc(), DIVERGED, &Wanted::Refused(FeedFault::Diverged(3)), 1), Ok(true)));
+    assert!(rt;
+        matches!(
+            is_wanted_however_cut(
+                rt.alloc(),
+                DIVERGED,
+                &Wanted::Refused(FeedFault::Diverged(3)),
+                1
+            ),
+            Ok(true)
+        )
+    );
 }
 
 /// A FIELD as the plan has it, and later one with another type.
@@ -165,7 +195,17 @@ const DIFFERS_LATER: &[u8] =
 
 #[test]
 fn field_that_differs_later(rt: HostRuntime) {
-    assert!(rt; matches!(is_wanted_however_cut(rt.alloc(), DIFFERS_LATER, &Wanted::Refused(FeedFault::FieldsDiffer), 1), Ok(true)));
+    assert!(rt;
+        matches!(
+            is_wanted_however_cut(
+                rt.alloc(),
+                DIFFERS_LATER,
+                &Wanted::Refused(FeedFault::FieldsDiffer),
+                1
+            ),
+            Ok(true)
+        )
+    );
 }
 
 /// A row of one column, where a FIELD in an earlier piece has told two; and a BEGIN behind a BEGIN.
@@ -176,8 +216,28 @@ const BEGUN_TWICE: &[u8] = b"\x04\x0a\x02\x08\x02\x04\x0a\x02\x08\x02";
 
 #[test]
 fn faults_inside_an_open_transaction(rt: HostRuntime) {
-    assert!(rt; matches!(is_wanted_however_cut(rt.alloc(), A_COLUMN_TOO_FEW, &Wanted::Refused(FeedFault::ColumnCount), 1), Ok(true)));
-    assert!(rt; matches!(is_wanted_however_cut(rt.alloc(), BEGUN_TWICE, &Wanted::Refused(FeedFault::Misplaced), 1), Ok(true)));
+    assert!(rt;
+        matches!(
+            is_wanted_however_cut(
+                rt.alloc(),
+                A_COLUMN_TOO_FEW,
+                &Wanted::Refused(FeedFault::ColumnCount),
+                1
+            ),
+            Ok(true)
+        )
+    );
+    assert!(rt;
+        matches!(
+            is_wanted_however_cut(
+                rt.alloc(),
+                BEGUN_TWICE,
+                &Wanted::Refused(FeedFault::Misplaced),
+                1
+            ),
+            Ok(true)
+        )
+    );
 }
 
 /// A length that is no varint, behind half of it: what is begun may still come, and the tenth byte can't.
@@ -185,8 +245,23 @@ const LENGTH_BROKEN: &[u8] = b"\x04\x0a\x02\x08\x03\xff\xff\xff\xff\xff\xff\xff\
 
 #[test]
 fn broken_length(rt: HostRuntime) {
-    assert!(rt; matches!(is_wanted_however_cut(rt.alloc(), LENGTH_BROKEN, &Wanted::Refused(FeedFault::Frame), 1), Ok(true)));
-    assert!(rt; matches!(is_wanted_however_cut(rt.alloc(), &LENGTH_BROKEN[..14], &Wanted::CutShort(5), 1), Ok(true)));
+    assert!(rt;
+        matches!(
+            is_wanted_however_cut(
+                rt.alloc(),
+                LENGTH_BROKEN,
+                &Wanted::Refused(FeedFault::Frame),
+                1
+            ),
+            Ok(true)
+        )
+    );
+    assert!(rt;
+        matches!(
+            is_wanted_however_cut(rt.alloc(), &LENGTH_BROKEN[..14], &Wanted::CutShort(5), 1),
+            Ok(true)
+        )
+    );
 }
 
 /// After a refused piece the feed is as it was, and grows by another one.

@@ -16,13 +16,13 @@ use Rattle.filter_rule.specs.PlanValue.{PlanValue}
 use Rattle.source_feed.specs.declared.fault.FeedFault.{FeedFault}
 use Rattle.source_feed.specs.declared.fault.FeedFault.TheVariants.{FeedTooLong, Frame, Event, FieldsDiffer, OpenAtEnd, Memory}
 use Rattle.source_feed.specs.FaultNumber.{meant_of}
-use Rattle.source_feed.specs.GroupValue.{GroupValue}
+use Rattle.source_feed.specs.GroupValue.{Position, GroupValue}
 use Rattle.source_feed.specs.SourceValue.{SourceValue}
 use Rattle.source_feed.specs.EventList.{fault_of_frame, events_then, events_in_messages, events_of_feed}
-use Rattle.source_feed.specs.PastEvents.{PastEvents, is_open}
-use Rattle.source_feed.specs.Groups.{groups_of, first_fault, fault_at, closed, groups_in, groups}
+use Rattle.source_feed.specs.PastEvents.{PastEvents, is_open, width_of, body_position}
+use Rattle.source_feed.specs.Groups.{seen, groups_of, first_fault, fault_at, closed, groups_in, groups}
 use Rattle.source_feed.specs.Pieces.{AreWhole, is_no_length, broken_by}
-use Rattle.source_feed.specs.Planned.{PlannedGroupValue, FeedValue, source_of, differs, planned_group, planned_groups, groups_under}
+use Rattle.source_feed.specs.Planned.{PlannedGroupValue, FeedValue, source_of, differs, planned_group, planned_groups, groups_under, IsFeed}
 use Rattle.source_feed.specs.Growing.{AreSettled, ended_by, events_so_far, fault_in, DiffersSoFar, IsRefusedFor}
 use Rattle.source_feed.specs.Private.EventByEvent.{past_behind, groups_at_end}
 use Rattle.source_feed.specs.Private.KnownBehind.{past_of}
@@ -32,7 +32,10 @@ use Rattle.source_feed.specs.declared.feed_end.FeedEnd.{FeedEnd}
 use Rattle.source_feed.specs.declared.group_reader.GroupReader.{GroupReader}
 use Rattle.source_feed.specs.Growing.{IsEndOf}
 use Rattle.source_feed.specs.Private.BlockEnd.{last_position}
-use Rattle.source_feed.specs.Private.FeedTables.{width_in, names_in}
+use Rattle.source_feed.specs.Private.FeedTables.{width_in, names_in, counted, AreNumbered}
+use Rattle.source_feed.proofs.FrameLaws.{frames_none}
+use Rattle.filter_rule.specs.WellFormed.{IsPlan}
+use Rattle.gtid_set.specs.Position.{IsCanonical}
 use Rattle.source_feed.specs.Private.KeptGroups.{KeptGroupValue, named_group}
 use Rattle.source_feed.specs.Private.KnownBehind.{reached_by}
 use Rattle.source_feed.specs.Private.ReaderState.{body_held, IsBehind}
@@ -175,11 +178,11 @@ pub refused_behind : (bytes piece : List ℕ) (plan : PlanValue) (all : List Gro
     → groups_under (bytes ++ piece) plan ≡ Err fault
 refused_behind bytes piece plan all fault s short e =
     ap (planned_groups plan (events_of_feed (bytes ++ piece)).items) (
-      groups-run (bytes ++ piece) (source_of plan) short
-      ∙ ap (λ (r : Events). groups_at_end (source_of plan) (past_behind (source_of plan) [] r.items r.fault)) (events_behind_whole bytes piece s.settled.whole s.settled.read)
-      ∙ ap (groups_at_end (source_of plan)) (past_behind-append (source_of plan) [] (events_of_feed bytes).items (events_of_feed piece).items (events_of_feed piece).fault)
-      ∙ ap (λ (r : Result PastEvents FeedFault). groups_at_end (source_of plan) (r >>= λ h. past_behind (source_of plan) h (events_of_feed piece).items (events_of_feed piece).fault)) s.past
-      ∙ ap (groups_at_end (source_of plan)) (whole_refused (source_of plan) (past_of bytes) piece fault e))
+    groups-run (bytes ++ piece) (source_of plan) short
+    ∙ ap (λ (r : Events). groups_at_end (source_of plan) (past_behind (source_of plan) [] r.items r.fault)) (events_behind_whole bytes piece s.settled.whole s.settled.read)
+    ∙ ap (groups_at_end (source_of plan)) (past_behind-append (source_of plan) [] (events_of_feed bytes).items (events_of_feed piece).items (events_of_feed piece).fault)
+    ∙ ap (λ (r : Result PastEvents FeedFault). groups_at_end (source_of plan) (r >>= λ h. past_behind (source_of plan) h (events_of_feed piece).items (events_of_feed piece).fault)) s.past
+    ∙ ap (groups_at_end (source_of plan)) (whole_refused (source_of plan) (past_of bytes) piece fault e))
 
 -- ---- a piece of which no event is at fault
 
@@ -285,3 +288,37 @@ started bytes feed end reader e closed none many at widths =
       seen_canonical = e.known.canonical;
       body_canonical = e.known.placed;
     }
+
+-- ---- no bytes yet
+
+pub begun : (plan : PlanValue) (feed : FeedValue) (end : FeedEnd) → feed ≡ record { plan = plan; groups = [] } → end.length ≡ 0 → names_in end.tables ≡ []
+    → ((table : List ℕ) → width_in end.tables table ≡ None) → AreNumbered (Some plan) end.tables → IsEndOf [] feed end
+begun plan feed end is size names widths numbers =
+    subst (λ (f : FeedValue). IsEndOf [] f end) (sym is) (record {
+      groups = ap (λ (r : Events). planned_groups plan r.items (groups_in (source_of plan) r)) nothing;
+      known = record {
+        many = size;
+        room = omega (arith, ap length names);
+        widths = λ table. widths table ∙ ap (λ (r : Events). option_map counted (width_of (source_of plan) (reverse r.items) table)) (sym nothing);
+        numbers = numbers;
+        last = ap (λ (r : Events). reached_in (groups_of (source_of plan) (reverse r.items))) nothing ∙ ap (λ (r : Events). seen (source_of plan) (reverse r.items)) (sym nothing);
+        canonical = subst (λ (r : Events). IsCanonical (seen (source_of plan) (reverse r.items))) (sym nothing) tt;
+        placed = subst (λ (r : Events). (position : Position) → body_position (source_of plan) (reverse r.items) ≡ Some position → IsCanonical position) (sym nothing) (λ position e. cc);
+      };
+    })
+  where
+    nothing : events_of_feed [] ≡ record { items = []; fault = None }
+    nothing = ap (λ (r : Reading (List ℕ) FrameFault). events_in_messages r.items r.fault) frames_none
+
+pub empty_is_feed : (plan : PlanValue) → IsPlan plan → IsFeed (record { plan = plan; groups = [] })
+empty_is_feed plan planned = record {
+  plan = planned;
+  order = record {
+    numbered = λ i group e. cc;
+    canonical = λ i group e. cc;
+    from_empty = λ i group e. cc;
+    growing = λ i j earlier later less e f. cc;
+  };
+  few = omega arith;
+  changes = λ i j group change e f. cc;
+}

@@ -29,4 +29,5 @@ pub mod OneMoreLaws
 pub mod GrowingLaws
 pub mod WalkedLaws
 pub mod EndLaws
+pub mod ReadOnLaws
 pub mod GrownLaws

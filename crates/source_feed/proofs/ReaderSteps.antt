@@ -263,6 +263,14 @@ commit-refused base source earlier old was m is none =
     let o = open_at base source earlier old was m is [] in
     cond-true _ _ _ o.opened ∙ ap (commit_fault source earlier) (o.position ∙ none)
 
+-- whether a transaction is open is said by what the reader has
+pub open_said : (base : List GroupValue) (source : SourceValue) (history : PastEvents) (reader : GroupReader) → IsBehind base source history reader → is_some reader.transaction ≡ is_open history
+open_said base source history reader m = by (is_some reader.transaction) refl
+  where
+    by : (b : Bool) → is_some reader.transaction ≡ b → b ≡ is_open history
+    by true e = let was = tested reader.transaction e in sym (open_at base source history reader was.0 m was.1 []).opened
+    by false e = sym (closed_at base source history reader m (λ names. ap (body_held names) (untested reader.transaction e)))
+
 -- ---- the end
 
 -- the groups, under the names of all tables

@@ -22,10 +22,7 @@ impl<'h> FeedEnd<'h> {
     ghost use Rattle.source_feed.specs.Growing.{IsEndOf};
 
     /// A feed of no bytes under a plan, with its end. Any error is want of memory.
-    pub fn begin(
-        alloc: Global,
-        plan: &Arc<Plan>,
-    ) -> Result<(Feed<'h>, FeedEnd<'h>), FeedFault>
+    pub fn begin(alloc: Global, plan: &Arc<Plan>) -> Result<(Feed<'h>, FeedEnd<'h>), FeedFault>
         ensures groups { IfOk result (λ begun. IsEndOf [] begun.0 begun.1) }
         ensures plan { IfOk result (λ begun. begun.0.plan ≡ arc_value plan.now) }
         ensures err { IfErr result (λ fault. fault ≡ FeedFault.Memory) }

@@ -1,6 +1,6 @@
 //! A feed that grows by further pieces.
 
-ghost use Rattle.std.specs.Prelude.{◌≡◌, ◌||◌, ◌+◌, ◌^◌, ◌<◌, ◌≤◌, ◌++◌, ℕ, List, false, length, take, drop, option_copied, Err, OnOk, OnErr, IfOk, IfErr, IfSome};
+ghost use Rattle.std.specs.Prelude.{◌≡◌, ◌||◌, ◌+◌, ◌^◌, ◌<◌, ◌≤◌, ◌++◌, ℕ, List, false, None, length, take, drop, option_copied, Err, OnOk, OnErr, IfOk, IfErr, IfSome};
 ghost use Rattle.std.specs.List.{list_any};
 ghost use Rattle.outcome.specs.Outcome.{Gives};
 ghost use Rattle.proto_wire.specs.Field.{bytes_at, sized_at};
@@ -10,7 +10,7 @@ ghost use Rattle.source_feed.specs.GroupValue.{GroupValue};
 ghost use Rattle.source_feed.specs.PastEvents.{PastEvents, is_open};
 ghost use Rattle.source_feed.specs.Planned.{differs_from};
 ghost use Rattle.source_feed.specs.TakesMemory.{WantsFrom};
-ghost use Rattle.source_feed.specs.Growing.{IsSettledFront, IsRefusedFor, IsEndOf, AreOfOneFeed, events_so_far};
+ghost use Rattle.source_feed.specs.Growing.{IsSettledFront, IsRefusedFor, IsEndOf, AreOfOneFeed, events_so_far, fault_so_far};
 ghost use Rattle.source_feed.specs.Private.EventByEvent.{past_behind};
 ghost use Rattle.source_feed.specs.Private.FeedTables.{AreNumbered};
 ghost use Rattle.source_feed.specs.Private.ReaderState.{IsBehind, TakesEvents, count_of};
@@ -158,6 +158,8 @@ impl<'h> FeedEnd<'h> {
         ensures plan { feed.new.plan ≡ feed.old.plan }
         // What a refusal says stands in all bytes, those of the piece behind those so far.
         ensures refused { (bytes : List ℕ) → IsEndOf bytes feed.old self.old → IfErr result (λ fault. IfSome (meant_of fault) (IsRefusedFor feed.old.plan (bytes ++ piece.now))) }
+        // Nothing of what has come is at fault, what isn't taken included.
+        ensures sound { (bytes : List ℕ) → IsEndOf bytes feed.old self.old → OnOk result (fault_so_far feed.old.plan (bytes ++ piece.now) ≡ None) }
         // Too many bytes are found before all else.
         ensures too_long { (bytes : List ℕ) → IsEndOf bytes feed.old self.old → 2 ^ 31 ≤ length (bytes ++ piece.now) → result ≡ Err FeedTooLong }
         // After a refusal feed and end are as they were.

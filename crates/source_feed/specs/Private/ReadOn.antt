@@ -30,7 +30,7 @@ abbrev pub IsFoundIn : List ℕ → FeedValue → List ℕ → FeedFault → Typ
 IsFoundIn bytes feed piece fault =
     (past_behind (source_of feed.plan) (past_of bytes) (events_so_far piece).items (events_so_far piece).fault ≡ Err fault)
     ⊎ ((fault ≡ FieldsDiffer) × ((history : PastEvents) × (past_behind (source_of feed.plan) (past_of bytes) (events_so_far piece).items (events_so_far piece).fault ≡ Ok history))
-        × (list_any (differs feed.plan) (events_so_far piece).items ≡ true))
+    × (list_any (differs feed.plan) (events_so_far piece).items ≡ true))
 
 -- nothing of a piece is at fault, and so many of its bytes are settled and read
 pub record IsSettledRead (bytes : List ℕ) (feed : FeedValue) (piece : List ℕ) (reader : GroupReader) (taken : ℕ) : Type 0 where
