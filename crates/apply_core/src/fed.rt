@@ -16,6 +16,7 @@ ghost use Rattle.apply_core.specs.Feeds.{AreFed, IsOfOwnFeed, IsRefusedInput};
 ghost use Rattle.apply_core.specs.Fresh.{fresh_board};
 ghost use Rattle.apply_core.specs.Resuming.{IsResumed, IsRefusedResume};
 ghost use Rattle.apply_core.specs.RunRefused.{EndsRun, StopsWanting, IsRefusedRun, IsLowest, refused_stream};
+ghost use Rattle.apply_core.specs.LowerEnded.{LowerHaveEnded};
 ghost use Rattle.apply_core.specs.Shown.{all_rows};
 
 use crate::alone::{run_all, run_named};
@@ -256,7 +257,8 @@ impl<'h> FedBoard<'h> {
         ensures refused { IfErr result (EndsRun self.old.feeds) }
         // 72 is of a stream's next step, which wants memory on the board as it is left.
         ensures memory { IfErr result (StopsWanting self.new.feeds self.new.board) }
-        // Every lower stream has come to its feed's end.
+        // Every lower stream has come to its feed's end, so all groups of its feed are sound.
+        ensures lower { IfErr result (LowerHaveEnded self.new.feeds self.new.board) }
         ensures lowest { IfErr result (IsLowest self.old.feeds) }
         ensures feeds { self.new.feeds ≡ self.old.feeds }
         ensures shows { ShowAll self.new.feeds self.new.board }
@@ -294,12 +296,13 @@ impl<'h> FedBoard<'h> {
     }
 
     /// The feed of stream `s` becomes one that it has grown to: of the same plan, with the same groups first. The board
-    /// is as it was. Takes no memory.
+    /// is as it was, and shows its sources still: what is applied stands behind the same groups. Takes no memory.
     pub fn put_grown(&mut self, s: u8, feed: Feed<'h>)
         requires there { s < length self.old.feeds }
         requires grown { IfSome (slice_get self.old.feeds s) (λ old. HasGrown old feed) }
         ensures board { self.new.board ≡ self.old.board }
         ensures feeds { self.new.feeds ≡ slice_set self.old.feeds s feed.entry }
+        ensures shows { ShowAll self.new.feeds self.new.board }
     {
         fed_boards_show_all();
         self.is_fed();

@@ -49,7 +49,7 @@ pub use joining::{JoinRefusal, join};
 pub use policy::Policy;
 pub use puts::Puts;
 pub use resuming::resume;
-pub use run_laws::ended_boards_have_the_union;
+pub use run_laws::{ended_boards_have_the_union, longer_feeds_have_grown};
 pub use run_refusal::RunRefusal;
 pub use saving::save;
 pub use schedule::{fed_board, run_schedule};
