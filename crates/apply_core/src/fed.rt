@@ -1,9 +1,11 @@
 //! A board with the feeds that its streams read.
 
-ghost use Rattle.std.specs.Prelude.{◌≡◌, ℕ, ◌<◌, ◌≤◌, None, Some, Err, IfOk, IfErr, IfSome, OnOk, OnErr, IsSomeAnd, [], length, map, slice_get, slice_set};
+ghost use Rattle.std.specs.Prelude.{◌≡◌, ℕ, ◌<◌, ◌≤◌, ◌^◌, ◌++◌, List, None, Some, Err, IfOk, IfErr, IfSome, OnOk, OnErr, IsSomeAnd, [], length, map, slice_get, slice_set};
 ghost use Rattle.std.specs.Arc.{arc_value};
 ghost use Rattle.std.specs.Option.{option_map_or};
 ghost use Rattle.checkpoint_core.specs.Fault.{HasParts};
+ghost use Rattle.source_feed.specs.declared.fault.FeedFault.TheVariants.{FeedTooLong};
+ghost use Rattle.source_feed.specs.Growing.{AreOfOneFeed, IsEndOf};
 ghost use Rattle.board_laws.specs.declared.refusal.Refusal.TheVariants.{NoStream};
 ghost use Rattle.board_laws.specs.Agreement.{SameStepsSameBoard, LoneRunsShowAlike, DisjointRunsShowAlike};
 ghost use Rattle.board_laws.specs.FedBoards.{IsFedBoard, HasGrown};
@@ -14,6 +16,8 @@ ghost use Rattle.board_laws.specs.Sources.{applied_position, ShowAll};
 ghost use Rattle.apply_core.specs.Ended.{AllHaveEnded, AreAsBefore, AreSound, HaveEnded, IsNamedStream, IsRowsUnion};
 ghost use Rattle.apply_core.specs.Feeds.{AreFed, IsOfOwnFeed, IsRefusedInput};
 ghost use Rattle.apply_core.specs.Fresh.{fresh_board};
+ghost use Rattle.apply_core.specs.declared.growing.GrowRefusal.TheVariants.{Piece};
+ghost use Rattle.apply_core.specs.Growing.{GrowsAt, IsRefusedGrow};
 ghost use Rattle.apply_core.specs.Resuming.{IsResumed, IsRefusedResume};
 ghost use Rattle.apply_core.specs.RunRefused.{EndsRun, StopsWanting, IsRefusedRun, IsLowest, refused_stream};
 ghost use Rattle.apply_core.specs.LowerEnded.{LowerHaveEnded};
@@ -21,9 +25,10 @@ ghost use Rattle.apply_core.specs.Shown.{all_rows};
 
 use crate::alone::{run_all, run_named};
 use crate::board::Board;
+use crate::growing::{GrowRefusal, grow_in};
 use crate::policy::Policy;
 use crate::resuming::resume;
-use crate::run_laws::ended_boards_have_the_union;
+use crate::run_laws::{ended_boards_have_the_union, longer_feeds_have_grown};
 use crate::run_refusal::RunRefusal;
 use crate::schedule::{fed_board, fed_replies};
 use board_laws::{
@@ -33,7 +38,7 @@ use board_laws::{
 use checkpoint_laws::ResumeFault;
 use filter_rule::Plan;
 use gtid_set::GtidSet;
-use source_feed::Feed;
+use source_feed::{Feed, FeedEnd};
 use std::alloc::{AllocError, Global};
 use std::marker::Model;
 use std::mem::replace;
@@ -307,5 +312,41 @@ impl<'h> FedBoard<'h> {
         fed_boards_show_all();
         self.is_fed();
         put_feed(&mut self.feeds, s, feed);
+    }
+
+    /// The feed of stream `s` grows by a further piece of its bytes, of which it borrows; `end` is where it ends so far, and
+    /// goes on with it. The answer is how many bytes are taken: up to the last message behind which no transaction is
+    /// open. The rest is given again with more behind it. The board is as it was, and shows its sources still: the groups
+    /// that are there stay the first ones. Takes time linear in the piece's bytes and in the feed's tables.
+    ///
+    /// Refused 115 where there is no such stream, else as `FeedEnd::grow`; then nothing is taken.
+    pub fn grow(
+        &mut self,
+        alloc: Global,
+        s: u8,
+        end: &mut FeedEnd<'h>,
+        piece: &'h [u8],
+    ) -> Result<u32, GrowRefusal>
+        requires { IfSome (slice_get self.old.feeds s) (λ feed. AreOfOneFeed feed end.old) }
+        // The feed then has the groups of all bytes so far, and each other feed is as it was.
+        ensures grown { IfOk result (λ taken. GrowsAt s piece.now taken self.old.feeds self.new.feeds end.old end.new) }
+        ensures board { self.new.board ≡ self.old.board }
+        ensures refused { IfErr result (IsRefusedGrow s piece.now self.old.feeds end.old) }
+        // Too many bytes are found before all else.
+        ensures too_long { IfSome (slice_get self.old.feeds s) (λ feed. (bytes : List ℕ) → IsEndOf bytes feed end.old → 2 ^ 31 ≤ length (bytes ++ piece.now) → result ≡ Err (Piece FeedTooLong)) }
+        // After a refusal all is as it was.
+        ensures left { OnErr result ((self.new.feeds ≡ self.old.feeds) × (end.new ≡ end.old)) }
+        ensures shows { ShowAll self.new.feeds self.new.board }
+    {
+        fed_boards_show_all();
+        longer_feeds_have_grown();
+        self.is_fed();
+        if s as usize >= self.feeds.len() {
+            return Err(GrowRefusal::NoStream);
+        }
+        match grow_in(alloc, &mut self.feeds, s, end, piece) {
+            Ok(taken) => Ok(taken),
+            Err(fault) => Err(GrowRefusal::Piece(fault)),
+        }
     }
 }
