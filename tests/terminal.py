@@ -4,6 +4,7 @@ import os
 import re
 import struct
 import subprocess
+import tempfile
 import termios
 
 SIGNS = re.compile("\x1b\\[K|\x1b\\[\\?7[lh]|.", re.DOTALL)
@@ -45,7 +46,9 @@ def run(words, width, streams=("stderr",), seconds=120, typed=b"", **how):
     what it printed on standard output where that is none, and what it wrote to the terminal."""
     ours, theirs = os.openpty()
     fcntl.ioctl(theirs, termios.TIOCSWINSZ, struct.pack("HHHH", 24, width, 0, 0))
-    given = {"stdin": subprocess.DEVNULL, "stdout": subprocess.PIPE, "stderr": subprocess.PIPE} | how | dict.fromkeys(streams, theirs)
+    # (no pipe: it would be full where nobody reads it meanwhile)
+    printed = tempfile.TemporaryFile()
+    given = {"stdin": subprocess.DEVNULL, "stdout": printed, "stderr": subprocess.PIPE} | how | dict.fromkeys(streams, theirs)
     try:
         ran = subprocess.Popen(words, start_new_session=True, **given)
     finally:
@@ -58,5 +61,7 @@ def run(words, width, streams=("stderr",), seconds=120, typed=b"", **how):
     except OSError:  # nobody has the terminal open any more
         pass
     os.close(ours)
-    out, _ = ran.communicate(timeout=seconds)
-    return ran.returncode, out or b"", said.decode(errors="replace")
+    ran.communicate(timeout=seconds)
+    with printed:
+        printed.seek(0)
+        return ran.returncode, printed.read(), said.decode(errors="replace")

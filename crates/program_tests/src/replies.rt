@@ -3,6 +3,7 @@
 use crate::checkpoints::SAVED;
 use crate::feeds::{LOWER, ONE_ROW, inputs_over};
 use crate::printed::{is_cut, is_done};
+use pace::Unmetered;
 use std::alloc::{AllocError, Global};
 use std::io::Cursor;
 use std::test::Fail;
@@ -81,7 +82,7 @@ fn goes_on(alloc: Global) -> Result<bool, AllocError> {
     let (mut out, mut err) = ([0u8; 256], [0u8; 64]);
     let mut replies = Writer::new(Cursor::new(&mut out[..]));
     let mut line = Writer::new(Cursor::new(&mut err[..]));
-    let status = resume(alloc, &inputs, &mut replies, &mut line);
+    let status = resume(alloc, &inputs, &Unmetered, &mut replies, &mut line);
     is_done(status, &out, &err, wanted)
 }
 

@@ -2,6 +2,7 @@
 
 use crate::feeds::ONE_ROW;
 use crate::printed::is_cut;
+use pace::Unmetered;
 use std::alloc::{AllocError, Global};
 use std::io::Cursor;
 use std::test::Fail;
@@ -61,6 +62,7 @@ fn report_is_cut(alloc: Global, room: &mut [u8]) -> Result<bool, AllocError> {
         WORKFLOW.as_bytes(),
         SOURCE,
         TARGET,
+        &Unmetered,
         &mut out,
         &mut line,
     );

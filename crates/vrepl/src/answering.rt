@@ -13,7 +13,7 @@ use crate::stating::{StatusInputs, read_status, state};
 use crate::telling::{Hushing, Teller};
 use crate::tiling::tile;
 use crate::{course_of, show_feed};
-use pace::Unmetered;
+use pace::Meter;
 use std::alloc::{AllocError, Global};
 use std::sync::Wait;
 use std::thread::Threads;
@@ -70,6 +70,9 @@ pub(crate) fn run_answering<'w, T: Threads + Wait + Sync>(
 {
     let asked = read_asked(rt, teller, words)?;
     teller.has_all();
+    if let Asked::Vdiff(inputs) = &asked {
+        teller.begins_lines(&inputs.source.text, &inputs.target.text);
+    }
     match reporter_of(rt, words)? {
         Some(reporter) => Ok(print_answer(rt, threads, teller, &reporter, &asked)),
         None => Ok(print_answer(rt, threads, teller, &Untold, &asked)),
@@ -175,17 +178,19 @@ fn print_answer<T: Threads + Wait + Sync, G: Progress + Sync>(
         rt.alloc(),
         gate,
         asked,
+        teller,
         &mut Hushing { teller, out },
         &mut Hushing { teller, out: err },
     )
 }
 
 /// Prints on `out` what the command makes of its inputs, or a refusal's line on `err`.
-fn answer<T: Threads + Wait + Sync, G: Progress + Sync, W: Out, E: Out>(
+fn answer<T: Threads + Wait + Sync, G: Progress + Sync, M: Meter, W: Out, E: Out>(
     threads: &T,
     alloc: Global,
     gate: &G,
     asked: &Asked<'_, '_>,
+    meter: &M,
     out: &mut W,
     err: &mut E,
 ) -> u8
@@ -197,13 +202,13 @@ fn answer<T: Threads + Wait + Sync, G: Progress + Sync, W: Out, E: Out>(
         Asked::Step(inputs) => step(alloc, inputs, out, err),
         Asked::Run(inputs) => run(threads, alloc, inputs, gate, out, err),
         Asked::Save(strict, inputs) => save(alloc, inputs, *strict, out, err),
-        Asked::Resume(inputs) => resume(alloc, inputs, out, err),
-        Asked::Join(inputs) => join(alloc, inputs, out, err),
-        Asked::Vdiff(inputs) => compare(alloc, inputs, out, err),
-        Asked::Check(inputs) => report(alloc, inputs, out, err),
+        Asked::Resume(inputs) => resume(alloc, inputs, meter, out, err),
+        Asked::Join(inputs) => join(alloc, inputs, meter, out, err),
+        Asked::Vdiff(inputs) => compare(alloc, inputs, meter, out, err),
+        Asked::Check(inputs) => report(alloc, inputs, meter, out, err),
         Asked::Tiles(inputs) => tile(alloc, inputs, out, err),
         Asked::Status(inputs) => state(alloc, inputs, out, err),
-        Asked::Compact(inputs) => compact(alloc, inputs, &Unmetered, out, err),
+        Asked::Compact(inputs) => compact(alloc, inputs, meter, out, err),
         Asked::Feed(inputs) => feed(alloc, inputs, out, err),
     }
 }

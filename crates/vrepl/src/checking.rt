@@ -7,7 +7,7 @@ ghost use Rattle.vrepl_main.specs.Inputs.{IsUnreadAmong};
 ghost use Rattle.vrepl_main.specs.declared.input.InputName.TheVariants.{File};
 
 use crate::telling::Teller;
-use pace::Unmetered;
+use pace::Meter;
 use std::alloc::Global;
 use vdiff_core::Out;
 use vrepl_check::{CheckInputs, check, print_place};
@@ -39,16 +39,17 @@ pub(crate) fn read_check<'n, 'w>(
 
 /// Prints on `out` the report on the inputs; or the line of a refusal on `err`, and behind it where the fault stands, if
 /// that can be said.
-pub(crate) fn report<W: Out, E: Out>(
+pub(crate) fn report<M: Meter, W: Out, E: Out>(
     alloc: Global,
     inputs: &CheckInputs<'_, '_>,
+    meter: &M,
     out: &mut W,
     err: &mut E,
 ) -> u8
     ensures ends { ReportEnds inputs.now result (W.written out.old) (W.written out.new) (E.written err.old) }
     ensures quiet { result ≢ 1 → err.new ≡ err.old }
 {
-    let status = check(alloc, inputs, &Unmetered, out, err);
+    let status = check(alloc, inputs, meter, out, err);
     if status == 1 {
         print_place(alloc, inputs, err);
     }

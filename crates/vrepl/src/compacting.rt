@@ -8,7 +8,6 @@ ghost use Rattle.vrepl_main.specs.declared.input.InputName.TheVariants.{File};
 use crate::keeping::{Keeping, keep, misnamed, place_of};
 use crate::telling::Teller;
 use compaction::UnknownTables;
-use pace::Unmetered;
 use std::alloc::{AllocError, Global};
 use vdiff_core::{Writer, put_all};
 use vrepl_compact::{CompactInputs, NewFeed, compacted, refuse_uncompacted};
@@ -90,7 +89,7 @@ pub(crate) fn compact_to<'w>(
     }
     let inputs = read_compact(rt, teller, words)?;
     teller.has_all();
-    match compacted(rt.alloc(), &inputs, &Unmetered) {
+    match compacted(rt.alloc(), &inputs, teller) {
         Ok(NewFeed { made, line }) => {
             keep(rt, &place, file, &made.feed)?;
             teller.ends();

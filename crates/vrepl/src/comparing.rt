@@ -7,6 +7,7 @@ ghost use Rattle.vrepl_main.specs.Inputs.{IsUnreadAmong, is_standard, input_name
 ghost use Rattle.vrepl_main.specs.declared.input.InputName.TheVariants.{File};
 
 use crate::telling::Teller;
+use pace::Meter;
 use std::alloc::Global;
 use vdiff_core::Out;
 use vrepl_choices::ReportForm;
@@ -77,9 +78,10 @@ fn detail_of<'w>(words: &Vdiff<'w>) -> Detail<'w>
 }
 
 /// Compares the dumps, by the options where they ask for more than the comparison as it is.
-pub(crate) fn compare<W: Out, E: Out>(
+pub(crate) fn compare<M: Meter, W: Out, E: Out>(
     alloc: Global,
     inputs: &VdiffInputs<'_>,
+    meter: &M,
     out: &mut W,
     err: &mut E,
 ) -> u8
@@ -87,15 +89,16 @@ pub(crate) fn compare<W: Out, E: Out>(
     ensures quiet { result ≢ 1 → err.new ≡ err.old }
 {
     if asks_more(&inputs.options) {
-        return vdiff_with(alloc, inputs, out, err);
+        return vdiff_with(alloc, inputs, meter, out, err);
     }
-    compare_plainly(alloc, inputs, out, err)
+    compare_plainly(alloc, inputs, meter, out, err)
 }
 
 /// The comparison as it is.
-fn compare_plainly<W: Out, E: Out>(
+fn compare_plainly<M: Meter, W: Out, E: Out>(
     alloc: Global,
     inputs: &VdiffInputs<'_>,
+    meter: &M,
     out: &mut W,
     err: &mut E,
 ) -> u8
@@ -108,6 +111,7 @@ fn compare_plainly<W: Out, E: Out>(
         &inputs.workflow,
         &source.text,
         &target.text,
+        meter,
         out,
         err,
     )

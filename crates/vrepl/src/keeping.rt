@@ -114,7 +114,7 @@ pub(crate) fn join_to<'w>(
     };
     let inputs = read_join(rt, teller, words.feed_form, &files_of(words))?;
     teller.has_all();
-    match joined_checkpoint(rt.alloc(), &inputs) {
+    match joined_checkpoint(rt.alloc(), &inputs, teller) {
         Ok(checkpoint) => {
             keep(rt, &place, file, &checkpoint)?;
             Ok(0)

@@ -1,6 +1,9 @@
 //! How far a command is that reads its inputs and then makes something of them: a thread of its own tells it meanwhile.
 
 use crate::drawing::{Page, push_clock};
+use crate::line_count::lines_in;
+use crate::way::{Parts, Way};
+use pace::Meter;
 use std::alloc::{AllocError, Global};
 use std::io::IsTerminal;
 use std::sync::Arc;
@@ -38,6 +41,8 @@ struct Work {
     read: AtomicU64,
     /// Whether all were.
     is_read: AtomicBool,
+    /// How far it is with what it makes of them.
+    way: Way,
     /// Who may write a line.
     pen: AtomicU64,
     /// In which of the times between two lines since it began the last one was told.
@@ -81,6 +86,9 @@ impl Work {
     fn line(&self, alloc: Global, gone: u64) -> Result<String, AllocError> {
         let is_read = self.is_read.load(Ordering::SeqCst);
         let (name, read) = (self.name, self.read.load(Ordering::SeqCst));
+        if is_read && self.way.has_begun() {
+            return self.way.line(alloc, name, gone);
+        }
         if is_read {
             let line = format!(in alloc; "{name} {read} bytes, ")?;
             return with_gone(alloc, line, gone);
@@ -165,6 +173,13 @@ impl<'r> Teller<'r> {
         }
     }
 
+    /// The lines of these texts are to be read: a part each. They are counted where that is told.
+    pub(crate) fn begins_lines(&self, one: &[u8], other: &[u8]) {
+        if self.work.is_some() {
+            self.begins(lines_in(one).saturating_add(lines_in(other)));
+        }
+    }
+
     /// The command is about to print something, or ends: from here on nothing is told.
     pub(crate) fn ends(&self) {
         if let Some(work) = &self.work {
@@ -177,6 +192,21 @@ impl Reading for Teller<'_> {
     fn has_read(&self, bytes: usize) {
         if let Some(work) = &self.work {
             work.read.fetch_add(bytes as u64, Ordering::SeqCst);
+        }
+    }
+}
+
+impl Meter for Teller<'_> {
+    fn begins(&self, parts: usize) {
+        if let Some(work) = &self.work {
+            let gone = work.gone(self.rt).unwrap_or(0);
+            work.way.begins(parts, gone);
+        }
+    }
+
+    fn has_done(&self, parts: usize) {
+        if let Some(work) = &self.work {
+            work.way.has_done(parts);
         }
     }
 }
@@ -208,12 +238,12 @@ fn watched<T: Threads>(rt: &HostRuntime, threads: &T, work: Work) -> Option<Arc<
 
 /// The work that the words ask for, where it is to be told of.
 fn work_of(rt: &HostRuntime, words: &Words<'_>) -> Option<Work> {
-    let (telling, name) = match words {
-        Words::Check(words) => (words.telling, "checking"),
-        Words::Vdiff(words) => (words.telling, "comparing"),
-        Words::Resume(words) => (words.telling, "resuming"),
-        Words::Join(words) => (words.telling, "joining"),
-        Words::Compact(words) => (words.telling, "compacting"),
+    let (telling, name, parts) = match words {
+        Words::Check(words) => (words.telling, "checking", Parts::Many("groups")),
+        Words::Vdiff(words) => (words.telling, "comparing", Parts::Many("rows")),
+        Words::Resume(words) => (words.telling, "resuming", Parts::Few),
+        Words::Join(words) => (words.telling, "joining", Parts::Few),
+        Words::Compact(words) => (words.telling, "compacting", Parts::Many("groups")),
         _ => return None,
     };
     let page = Page::asked(rt, telling)?;
@@ -227,6 +257,7 @@ fn work_of(rt: &HostRuntime, words: &Words<'_>) -> Option<Work> {
         begun: Instant::now(rt).ok(),
         read: AtomicU64::new(0),
         is_read: AtomicBool::new(false),
+        way: Way::new(parts),
         pen: AtomicU64::new(FREE),
         told: AtomicU64::new(0),
     })

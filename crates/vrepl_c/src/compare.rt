@@ -11,6 +11,7 @@ use crate::dump::BAD_DUMP;
 use crate::room::{MEMORY, put};
 use crate::workflow::plan_of;
 use filter_rule::Plan;
+use pace::Unmetered;
 use std::alloc::Global;
 use vdiff_core::{DumpFault, Report, compare, read_dump_beside, read_lined_dump};
 
@@ -72,12 +73,12 @@ fn compared(
     ensures compared { IfOk result (λ made. AreCompared plan.now source.now target.now most made.report made.bytes.items) }
     ensures refused { IfErr result (λ refused. IsRefusedFor plan.now source.now target.now refused) }
 {
-    let ours = match read_lined_dump(alloc, plan, source) {
+    let ours = match read_lined_dump(alloc, plan, source, &Unmetered) {
         Ok(rows) => rows,
         Err(DumpFault::BadDump { line }) => return Err(Refused::Source(line)),
         Err(DumpFault::Memory) => return Err(Refused::Memory),
     };
-    let theirs = match read_dump_beside(alloc, plan, target, &ours) {
+    let theirs = match read_dump_beside(alloc, plan, target, &ours, &Unmetered) {
         Ok(rows) => rows,
         Err(DumpFault::BadDump { line }) => return Err(Refused::Target(line)),
         Err(DumpFault::Memory) => return Err(Refused::Memory),

@@ -10,6 +10,7 @@ use crate::output::{put_all, put_between, put_str};
 use crate::refusal::{CommandRefusal, refuse};
 use crate::refused_text::name_of_table;
 use filter_rule::{Plan, Table};
+use pace::Meter;
 use pk_copy::Key;
 use std::alloc::Global;
 use vdiff_core::{
@@ -30,12 +31,14 @@ pub enum Verdict {
 /// them the least key at which the two differ, if there is one; or prints the line of a refusal on `err` and
 /// then nothing on `out`, unless it is `out` that can't be written. The faults are found in this order: the
 /// workflow file's, the source's, the target's. Of the workflow its tables alone count. Answers the status: 0
-/// where the dumps are of the same rows, 3 where they differ, 1 after a refusal, also of memory.
-pub fn vdiff<W: Out, E: Out>(
+/// where the dumps are of the same rows, 3 where they differ, 1 after a refusal, also of memory. Each line of a dump is a part
+/// that is done once it is read; that so many begin is the caller's to tell.
+pub fn vdiff<M: Meter, W: Out, E: Out>(
     alloc: Global,
     workflow: &[u8],
     source: &[u8],
     target: &[u8],
+    meter: &M,
     out: &mut W,
     err: &mut E,
 ) -> u8
@@ -45,7 +48,7 @@ pub fn vdiff<W: Out, E: Out>(
     ensures determined { AreTextsReadOnce workflow.now source.now target.now }
 {
     texts_are_read_once();
-    match print_vdiff(alloc, workflow, source, target, out) {
+    match print_vdiff(alloc, workflow, source, target, meter, out) {
         Ok(Verdict::Same) => 0,
         Ok(Verdict::Differ) => 3,
         Err(refusal) => refuse(err, &refusal),
@@ -53,11 +56,12 @@ pub fn vdiff<W: Out, E: Out>(
 }
 
 /// Prints the comparison of two dumps, or nothing where one of the files is refused.
-fn print_vdiff<W: Out>(
+fn print_vdiff<M: Meter, W: Out>(
     alloc: Global,
     workflow: &[u8],
     source: &[u8],
     target: &[u8],
+    meter: &M,
     out: &mut W,
 ) -> Result<Verdict, CommandRefusal<'static>>
     ensures compared { IfOk result (λ verdict. IsComparedAs verdict workflow.now source.now target.now (W.written out.old) (W.written out.new)) }
@@ -65,8 +69,8 @@ fn print_vdiff<W: Out>(
 {
     let plans = Plan::read_all(alloc, workflow)?;
     let plan = &plans[0];
-    let source = read_lined_dump(alloc, plan, source)?;
-    let target = read_dump_beside(alloc, plan, target, &source)?;
+    let source = read_lined_dump(alloc, plan, source, meter)?;
+    let target = read_dump_beside(alloc, plan, target, &source, meter)?;
     let verdict = print_comparison(out, plan, source.rows(), &target)?;
     Ok(verdict)
 }

@@ -19,6 +19,7 @@ use apply_core::{
 };
 use board_laws::fed_boards_show_all;
 use filter_rule::Plan;
+use pace::Meter;
 use std::alloc::Global;
 use std::sync::Arc;
 use vdiff_core::Out;
@@ -67,12 +68,19 @@ impl From<CommandRefusal<'static>> for Unjoined {
 /// those of these streams, in whatever order the checkpoints come. Or prints the line of a refusal on `err` and then
 /// nothing on `out`, unless it is `out` that can't be written. The checkpoints are judged behind the workflow and the
 /// feeds, `one` first, and each of the others before its board is joined to those before it: two boards are held at a
-/// time. Answers the status: 0, or 1 after a refusal, also of memory.
-pub fn join<W: Out, E: Out>(alloc: Global, inputs: &JoinInputs, out: &mut W, err: &mut E) -> u8
+/// time. Answers the status: 0, or 1 after a refusal, also of memory. A feed is a part of the work where it is opened, one
+/// where the board of each checkpoint is made, and one where the join is saved.
+pub fn join<M: Meter, W: Out, E: Out>(
+    alloc: Global,
+    inputs: &JoinInputs,
+    meter: &M,
+    out: &mut W,
+    err: &mut E,
+) -> u8
     ensures ends { JoinEnds inputs.now result (W.written out.old) (W.written out.new) (E.written err.old) (E.written err.new) }
     ensures quiet { result ≡ 0 → err.new ≡ err.old }
 {
-    match print_joined(alloc, inputs, out) {
+    match print_joined(alloc, inputs, meter, out) {
         Ok(()) => 0,
         Err(unjoined) => refuse_unjoined(err, &unjoined),
     }
@@ -92,11 +100,16 @@ pub fn refuse_unjoined<E: Out>(err: &mut E, unjoined: &Unjoined) -> u8
 }
 
 /// Prints the checkpoint of the join, or nothing where there is none.
-fn print_joined<W: Out>(alloc: Global, inputs: &JoinInputs, out: &mut W) -> Result<(), Unjoined>
+fn print_joined<M: Meter, W: Out>(
+    alloc: Global,
+    inputs: &JoinInputs,
+    meter: &M,
+    out: &mut W,
+) -> Result<(), Unjoined>
     ensures printed { OnOk result (PrintsJoin inputs.now (W.written out.old) (W.written out.new)) }
     ensures refused { IfErr result (λ refusal. RefusesJoin refusal inputs.now (W.written out.old) (W.written out.new)) }
 {
-    let bytes = joined_checkpoint(alloc, inputs)?;
+    let bytes = joined_checkpoint(alloc, inputs, meter)?;
     match print_bytes(out, &bytes) {
         Ok(()) => Ok(()),
         Err(_) => Err(Unjoined::Given(CommandRefusal::CannotWrite { file: "-" })),
@@ -104,18 +117,25 @@ fn print_joined<W: Out>(alloc: Global, inputs: &JoinInputs, out: &mut W) -> Resu
 }
 
 /// The checkpoint that `join` prints.
-pub fn joined_checkpoint(alloc: Global, inputs: &JoinInputs) -> Result<Vec<u8>, Unjoined>
+pub fn joined_checkpoint<M: Meter>(
+    alloc: Global,
+    inputs: &JoinInputs,
+    meter: &M,
+) -> Result<Vec<u8>, Unjoined>
     ensures saved { IfOk result (λ bytes. IsSavedJoin (join_asked inputs.now) inputs.now.one.items (bytes_of inputs.now.others.items) bytes.items) }
     ensures refused { IfErr result (λ refusal. IsUnjoined refusal (join_asked inputs.now) inputs.now.one.items (bytes_of inputs.now.others.items)) }
 {
+    let feeds = inputs.feeds.len();
+    meter.begins(inputs.others.len().saturating_add(3).saturating_mul(feeds));
     let Ok(given) = given_feeds(alloc, inputs.feed_form, &inputs.feeds) else {
         return Err(Unjoined::Given(CommandRefusal::Memory));
     };
     let opened = open_workflow(alloc, &inputs.workflow, &given)?;
+    meter.has_done(feeds);
     let Ok(plan) = first_plan(&opened.plans) else {
         return Err(Unjoined::Given(CommandRefusal::Memory));
     };
-    let board = join_over(alloc, &opened, plan, &inputs.one, &inputs.others)?;
+    let board = join_over(alloc, &opened, plan, &inputs.one, &inputs.others, meter)?;
     match checkpoint(alloc, &board) {
         Ok(bytes) => Ok(bytes),
         Err(_) => Err(Unjoined::Given(CommandRefusal::Memory)),
@@ -123,12 +143,13 @@ pub fn joined_checkpoint(alloc: Global, inputs: &JoinInputs) -> Result<Vec<u8>, 
 }
 
 /// The join of the boards that checkpoints make over the plans, the first of which is `plan`, and their feeds.
-fn join_over<'h>(
+fn join_over<'h, M: Meter>(
     alloc: Global,
     opened: &Opened<'h>,
     plan: Arc<Plan>,
     one: &[u8],
     others: &[Vec<u8>],
+    meter: &M,
 ) -> Result<Board<'h>, Unjoined>
     requires plans { HasPlans opened.now }
     requires first { IsFirstOf opened.now plan }
@@ -142,6 +163,7 @@ fn join_over<'h>(
         Ok(board) => board,
         Err(fault) => return Err(Unjoined::One { plan, fault }),
     };
+    meter.has_done(feeds.len());
     for i in 0..others.len() {
         let next = match resumed_board(alloc, plans, feeds, &others[i]) {
             Ok(next) => next,
@@ -156,6 +178,7 @@ fn join_over<'h>(
                 });
             }
         };
+        meter.has_done(feeds.len());
     }
     Ok(board)
 }

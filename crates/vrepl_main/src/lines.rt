@@ -7,16 +7,19 @@ ghost use Rattle.vrepl_main.specs.ScriptPrinting.{RepliesTo};
 use crate::line::take_line;
 use apply_core::FedBoard;
 use filter_rule::Plan;
+use pace::Meter;
 use std::alloc::Global;
 use step_script::ScriptStep;
 use vdiff_core::{Gathered, Out, OutFailed};
 
-/// Takes the steps of a script on a board with its feeds, one after another, and adds their replies.
-pub(crate) fn take_lines<W: Out>(
+/// Takes the steps of a script on a board with its feeds, one after another, and adds their replies. Each is a part that is
+/// done.
+pub(crate) fn take_lines<M: Meter, W: Out>(
     alloc: Global,
     plan: &Plan,
     fed: &mut FedBoard<'_>,
     steps: &[ScriptStep],
+    meter: &M,
     out: &mut W,
     text: &mut Gathered,
 ) -> Result<(), OutFailed>
@@ -25,6 +28,7 @@ pub(crate) fn take_lines<W: Out>(
 {
     for step in steps {
         take_line(alloc, plan, fed, *step, out, text)?;
+        meter.has_done(1);
     }
     Ok(())
 }

@@ -16,6 +16,7 @@ use crate::scripted::{Scripted, open_scripted};
 use crate::stepping::{first_plan, print_taken};
 use apply_core::{FedBoard, ResumeFault};
 use filter_rule::Plan;
+use pace::Meter;
 use std::alloc::Global;
 use std::mem::forget;
 use std::sync::Arc;
@@ -50,12 +51,19 @@ impl From<CommandRefusal<'static>> for ResumeRefusal {
 /// of the streams each, and prints their replies on `out`, as `step` does; or prints the line of a refusal on
 /// `err` and then nothing on `out`, unless it is `out` that can't be written. The checkpoint is judged behind
 /// the workflow, the feeds and the whole script. Answers the status: 0, or 1 after a refusal, also of memory. Behind the
-/// replies what the board and the feeds hold is forgotten: it goes back with the memory of the process.
-pub fn resume<W: Out, E: Out>(alloc: Global, inputs: &ResumeInputs, out: &mut W, err: &mut E) -> u8
+/// replies what the board and the feeds hold is forgotten: it goes back with the memory of the process. A feed is a part of the
+/// work where it is opened, and one where the board is made; so is each step of the script.
+pub fn resume<M: Meter, W: Out, E: Out>(
+    alloc: Global,
+    inputs: &ResumeInputs,
+    meter: &M,
+    out: &mut W,
+    err: &mut E,
+) -> u8
     ensures ends { ResumeEnds (script_asked inputs.now.step) inputs.now.checkpoint.items result (W.written out.old) (W.written out.new) (E.written err.old) (E.written err.new) }
     ensures quiet { result ≡ 0 → err.new ≡ err.old }
 {
-    match print_replies(alloc, inputs, out) {
+    match print_replies(alloc, inputs, meter, out) {
         Ok(()) => 0,
         Err(ResumeRefusal::Given(refusal)) => refuse(err, &refusal),
         Err(ResumeRefusal::Checkpoint { plan, fault }) => refuse_over(err, &plan, &fault),
@@ -63,26 +71,31 @@ pub fn resume<W: Out, E: Out>(alloc: Global, inputs: &ResumeInputs, out: &mut W,
 }
 
 /// Prints the replies to a script on a resumed board, or nothing where there is nothing to reply to.
-fn print_replies<W: Out>(
+fn print_replies<M: Meter, W: Out>(
     alloc: Global,
     inputs: &ResumeInputs,
+    meter: &M,
     out: &mut W,
 ) -> Result<(), ResumeRefusal>
     ensures { LeavesResumed result (script_asked inputs.now.step) inputs.now.checkpoint.items (W.written out.old) (W.written out.new) }
 {
     let step = &inputs.step;
+    meter.begins(step.feeds.len().saturating_mul(2));
     let Ok(given) = given_feeds(alloc, step.feed_form, &step.feeds) else {
         return Err(ResumeRefusal::Given(CommandRefusal::Memory));
     };
     let scripted = open_scripted(alloc, step, &given)?;
-    print_resumed(alloc, &inputs.checkpoint, scripted, out)
+    meter.begins(scripted.steps.len());
+    meter.has_done(step.feeds.len());
+    print_resumed(alloc, &inputs.checkpoint, scripted, meter, out)
 }
 
 /// The same over what is opened.
-fn print_resumed<W: Out>(
+fn print_resumed<M: Meter, W: Out>(
     alloc: Global,
     checkpoint: &[u8],
     scripted: Scripted<'_>,
+    meter: &M,
     out: &mut W,
 ) -> Result<(), ResumeRefusal>
     requires { ArePlans (map arc_value scripted.opened.plans.items) }
@@ -97,7 +110,8 @@ fn print_resumed<W: Out>(
         Ok(fed) => fed,
         Err(fault) => return Err(ResumeRefusal::Checkpoint { plan, fault }),
     };
-    match print_taken(alloc, &plan, &mut fed, &steps, out) {
+    meter.has_done(fed.feeds().len());
+    match print_taken(alloc, &plan, &mut fed, &steps, meter, out) {
         Ok(()) => {
             forget(fed);
             Ok(())

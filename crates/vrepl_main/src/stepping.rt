@@ -18,6 +18,7 @@ use crate::refusal::{CommandRefusal, refuse};
 use crate::scripted::{Scripted, open_scripted};
 use apply_core::FedBoard;
 use filter_rule::Plan;
+use pace::{Meter, Unmetered};
 use source_feed::Feed;
 use std::alloc::{AllocError, Global};
 use std::mem::forget;
@@ -96,22 +97,23 @@ fn print_run<W: Out>(
     let Opened { plans, feeds } = opened;
     let plan = first_plan(&plans)?;
     let mut fed = fresh_board(alloc, plans, feeds)?;
-    print_taken(alloc, &plan, &mut fed, &steps, out)?;
+    print_taken(alloc, &plan, &mut fed, &steps, &Unmetered, out)?;
     forget(fed);
     Ok(())
 }
 
-/// Takes the steps on a board with its feeds, and prints their replies.
-pub(crate) fn print_taken<W: Out>(
+/// Takes the steps on a board with its feeds, and prints their replies. Each is a part that is done.
+pub(crate) fn print_taken<M: Meter, W: Out>(
     alloc: Global,
     plan: &Plan,
     fed: &mut FedBoard<'_>,
     steps: &[ScriptStep],
+    meter: &M,
     out: &mut W,
 ) -> Result<(), OutFailed>
     ensures { PrintsRun result fed.old.feeds plan.now fed.old.board steps.now (W.written out.old) (W.written out.new) }
 {
     let mut text = Gathered::new();
-    take_lines(alloc, plan, fed, steps, out, &mut text)?;
+    take_lines(alloc, plan, fed, steps, meter, out, &mut text)?;
     text.finish(out)
 }

@@ -14,10 +14,10 @@ at_place : (others : List (Vec ℕ)) (i : ℕ) (other : Vec ℕ) → slice_get o
 at_place others i other is = slice_get-map (λ other. other.items) others i ∙ ap (option_map (λ other. other.items)) is
 
 pub loop-i-init : goal.loop-i-init
-loop-i-init c = ((c.in-Ok.board, rw c.as_slice-feeds.ensures.value at c.in-Ok.ensures.resumed, refl), rw c.as_slice-feeds.ensures.value at c.in-Ok.ensures.board)
+loop-i-init g c = ((c.in-Ok.board, rw c.as_slice-feeds.ensures.value at c.in-Ok.ensures.resumed, refl), rw c.as_slice-feeds.ensures.value at c.in-Ok.ensures.board)
 
 pub loop-i-preserved : goal.loop-i-preserved
-loop-i-preserved c =
+loop-i-preserved g c =
     let place = at_place c.args.others.now c.loop-i.i c.index-others-i.result (slice_get_read c.args.others.now (length c.args.others.now) c.loop-i.i c.index-others-i.result refl c.loop-i-test.true c.index-others-i.is) in
     let here = rw (c.deref.ensures.value, c.as_slice-feeds.ensures.value) at c.in-Ok-resumed_board.ensures.resumed in (
       joined-more (opened_value c.args.opened.now) c.args.one.now (bytes_of c.args.others.now) c.loop-i.i c.index-others-i.result.items place c.loop-i.board c.loop-i.invariant.0
@@ -26,22 +26,22 @@ loop-i-preserved c =
     )
 
 pub returns-in-Err-resumed_board-clause-refused : goal.returns-in-Err-resumed_board-clause-refused
-returns-in-Err-resumed_board-clause-refused c =
+returns-in-Err-resumed_board-clause-refused g c =
     let place = at_place c.args.others.now c.loop-i.i c.index-others-i.result (slice_get_read c.args.others.now (length c.args.others.now) c.loop-i.i c.index-others-i.result refl c.loop-i-test.true c.index-others-i.is) in
     other_refused (opened_value c.args.opened.now) c.args.one.now (bytes_of c.args.others.now) c.loop-i.i c.index-others-i.result.items place c.loop-i.board c.loop-i.invariant.0
     (arc_value c.args.plan) c.in-Err-resumed_board.fault (record { first = c.requires.first; refused = rw (c.deref.ensures.value, c.as_slice-plans.ensures.value, c.as_slice-feeds.ensures.value) at c.in-Err-resumed_board.ensures.refused })
 
 pub returns-in-Err-joined_board-clause-refused : goal.returns-in-Err-joined_board-clause-refused
-returns-in-Err-joined_board-clause-refused c =
+returns-in-Err-joined_board-clause-refused g c =
     let place = at_place c.args.others.now c.loop-i.i c.index-others-i.result (slice_get_read c.args.others.now (length c.args.others.now) c.loop-i.i c.index-others-i.result refl c.loop-i-test.true c.index-others-i.is) in
     not_joined (opened_value c.args.opened.now) c.args.one.now (bytes_of c.args.others.now) c.loop-i.i c.index-others-i.result.items place c.loop-i.board c.loop-i.invariant.0
     c.in-Ok-resumed_board.next (rw (c.deref.ensures.value, c.as_slice-feeds.ensures.value) at c.in-Ok-resumed_board.ensures.resumed) (arc_value c.args.plan) c.in-Err-joined_board.refusal.why c.requires.first c.in-Err-joined_board.ensures.refused
 
 pub returns-clause-joined : goal.returns-clause-joined
-returns-clause-joined c =
+returns-clause-joined g c =
     let many : length (bytes_of c.args.others.now) ≡ length c.args.others.now = length-map c.args.others.now (λ other. other.items) in
     all_joined (opened_value c.args.opened.now) c.args.one.now (bytes_of c.args.others.now) c.loop-i.i c.loop-i.board (omega (arith, many, c.loop-i-test.false)) c.loop-i.invariant.0
     (c.fed_boards_show_all.ensures.show c.args.opened.now.feeds.items c.loop-i.board c.loop-i.invariant.1)
 
 pub returns-in-Err-clause-refused : goal.returns-in-Err-clause-refused
-returns-in-Err-clause-refused c = record { first = c.requires.first; refused = rw (c.as_slice-plans.ensures.value, c.as_slice-feeds.ensures.value) at c.in-Err.ensures.refused }
+returns-in-Err-clause-refused g c = record { first = c.requires.first; refused = rw (c.as_slice-plans.ensures.value, c.as_slice-feeds.ensures.value) at c.in-Err.ensures.refused }

@@ -6,4 +6,4 @@ use Rattle.vrepl_main.proofs.joining.join_over.Given as goal
 
 -- the boards so far are joined
 abbrev pub invariant-loop-i : goal.invariant-loop-i
-invariant-loop-i l = AreJoined l.opened.feeds.items l.one (take l.i (bytes_of l.others)) l.board × IsFedBoard l.opened.feeds.items l.board
+invariant-loop-i g l = AreJoined l.opened.feeds.items l.one (take l.i (bytes_of l.others)) l.board × IsFedBoard l.opened.feeds.items l.board

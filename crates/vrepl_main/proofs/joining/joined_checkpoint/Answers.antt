@@ -9,14 +9,14 @@ use Rattle.vrepl_main.proofs.RunLaws.{given_as}
 use Rattle.vrepl_main.proofs.joining.joined_checkpoint.Goals as goal
 
 pub returns-in_err-opened-clause-refused : goal.returns-in_err-opened-clause-refused
-returns-in_err-opened-clause-refused c =
+returns-in_err-opened-clause-refused g c =
     let p = err_from_is_err_and c.from_residual.result c.from_residual.ensures.1 in
     let inputs = c.args.inputs.now in
     let e = given_as inputs.feeds.items (λ feed. feed.items) inputs.feed_form inputs.workflow.items _ (rw c.deref.ensures.value at c.in-Ok.ensures) in
     rw (p.1, p.2) (subst (λ (r : Result OpenedValue Reason). RefusesInputs {X = OpenedValue} c.in_err-opened.field-0.0 r) e (rw (c.deref-2.ensures.value, c.deref-3.ensures.value) at c.in_err-opened.ensures.opened))
 
 pub returns-in_err-board-clause-refused : goal.returns-in_err-board-clause-refused
-returns-in_err-board-clause-refused c =
+returns-in_err-board-clause-refused g c =
     let p = err_from_is_err_and c.from_residual-in_err-board.result c.from_residual-in_err-board.ensures.1 in
     let inputs = c.args.inputs.now in
     let e = given_as inputs.feeds.items (λ feed. feed.items) inputs.feed_form inputs.workflow.items _ (rw c.deref.ensures.value at c.in-Ok.ensures) in
@@ -24,7 +24,7 @@ returns-in_err-board-clause-refused c =
     (rw (c.deref-5.ensures.value, c.deref-6.ensures.value) at c.in_err-board.ensures.refused))
 
 pub returns-in-Ok-checkpoint-clause-saved : goal.returns-in-Ok-checkpoint-clause-saved
-returns-in-Ok-checkpoint-clause-saved c =
+returns-in-Ok-checkpoint-clause-saved g c =
     let inputs = c.args.inputs.now in
     let e = given_as inputs.feeds.items (λ feed. feed.items) inputs.feed_form inputs.workflow.items _ (rw c.deref.ensures.value at c.in-Ok.ensures) in
     saved_as inputs.one.items (bytes_of inputs.others.items) (Ok (opened_value c.in_ok-opened.opened)) _ (sym (rw (c.deref-2.ensures.value, c.deref-3.ensures.value) at c.in_ok-opened.ensures.opened) ∙ e) c.in-Ok-checkpoint.bytes.items
