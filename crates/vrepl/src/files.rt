@@ -1,13 +1,14 @@
 //! Commands over files of one kind: their inputs, and a refusal that names one of them.
 
 ghost use Rattle.std.specs.Prelude.{◌≡◌, map, IfErr, IfOk};
-ghost use Rattle.vrepl_main.specs.Inputs.{IsUnreadAmong};
+ghost use Rattle.vrepl_main.specs.InputList.{bytes_of};
+ghost use Rattle.vrepl_main.specs.Inputs.{AreGiven, IsUnreadAmong};
 ghost use Rattle.vrepl_main.specs.declared.input.InputName.TheVariants.{File};
 
 use shown_text::shown;
 use std::alloc::{AllocError, Global};
 use vdiff_core::{Out, put_all};
-use vrepl_main::{CommandRefusal, InputName, Untold, read_inputs};
+use vrepl_main::{CommandRefusal, InputName, Source, Untold, read_inputs};
 
 /// Files with their names.
 #[derive(Drop)]
@@ -30,11 +31,13 @@ fn input_names<'w>(alloc: Global, files: &[&'w str]) -> Result<Vec<InputName<'w>
 }
 
 /// Reads files in their order.
-pub(crate) fn read_files<'n, 'w>(
-    rt: &HostRuntime,
+pub(crate) fn read_files<'n, 'w, R: Source + AllocGlobal>(
+    rt: &R,
     names: &'n [&'w str],
 ) -> Result<FileInputs<'n, 'w>, CommandRefusal<'w>>
     ensures asked { IfOk result (λ inputs. inputs.names.now ≡ names.entry.now) }
+    // Each is read under its own name: as many texts as names, in their order.
+    ensures given { IfOk result (λ inputs. AreGiven (R.gives rt.now) (map File names.entry.now) (bytes_of inputs.texts.items)) }
     ensures unread { IfErr result (IsUnreadAmong (map File names.entry.now)) }
 {
     let inputs = input_names(rt.alloc(), names)?;

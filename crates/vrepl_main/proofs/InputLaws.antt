@@ -1,10 +1,11 @@
 -- What reads in a row take from an input whose bytes are known.
-use Rattle.std.proofs.Common.{◌≡◌, ◌∙◌, ap, sym, subst, ℕ, suc, ◌*◌, ◌<◌, ◌≤◌, true, false, List, [], ◌∷◌, ◌++◌, length, take, arith}
-use Rattle.std.proofs.lemmas.List.{append-nil, get_or_append_left, get_or_default, length-append}
+use Rattle.std.proofs.Common.{◌≡◌, ◌∙◌, ap, refl, sym, subst, ℕ, suc, ◌+◌, ◌*◌, ◌<◌, ◌≤◌, true, false, List, [], ◌∷◌, ◌++◌, length, take, arith, inl, inr}
+use Rattle.std.proofs.lemmas.List.{append-nil, get_or_append_left, get_or_default, length-append, take_all, take_more}
+use Rattle.list_laws.proofs.Places.{no_place, slice_get-push}
 use Rattle.std.specs.Prelude.{Option, Some, None, IfSome}
 use Rattle.std.specs.Io.KnownBytes.{Consumes, IsAtEnd}
-use Rattle.std.specs.Prelude.{get_or}
-use Rattle.vrepl_main.specs.Inputs.{input_name, IsUnread, IsUnreadAmong}
+use Rattle.std.specs.Prelude.{get_or, slice_get}
+use Rattle.vrepl_main.specs.Inputs.{input_name, AreGiven, IsUnread, IsUnreadAmong}
 use Rattle.vrepl_main.specs.declared.input.InputName.{InputName}
 use Rattle.vrepl_main.specs.declared.input.InputName.TheVariants.{Standard}
 use Rattle.vrepl_main.specs.declared.refusal.CommandRefusal.{CommandRefusal}
@@ -85,3 +86,36 @@ unread_before some others BadHex unread = absurd unread
 unread_before some others (BadScript bad) unread = absurd unread
 unread_before some others (BadDump bad) unread = absurd unread
 unread_before some others (CannotWrite file) unread = absurd unread
+
+-- ---- what is read under each name
+
+module _ (Gives : InputName → List ℕ → Type 0) (names : List InputName) where
+  -- nothing is read yet
+  pub given_none : AreGiven Gives (take 0 names) []
+  given_none = record { count = refl; each = λ i name text at_n at_t. no_place i name at_n }
+
+  -- one more is read
+  pub given_more : (i : ℕ) (d : InputName) (texts : List (List ℕ)) (text : List ℕ) → i < length names → AreGiven Gives (take i names) texts → Gives (get_or names i d) text → AreGiven Gives (take (i + 1) names) (texts ++ text ∷ [])
+  given_more i d texts text within so_far one = subst (λ (l : List InputName). AreGiven Gives l (texts ++ text ∷ [])) (sym (take_more names i d within)) (record { count = count; each = each })
+    where
+      count : length (texts ++ text ∷ []) ≡ length (take i names ++ get_or names i d ∷ [])
+      count = length-append texts (text ∷ []) ∙ ap (λ n. n + 1) so_far.count ∙ sym (length-append (take i names) (get_or names i d ∷ []))
+
+      each : (j : ℕ) (name : InputName) (t : List ℕ) → slice_get (take i names ++ get_or names i d ∷ []) j ≡ Some name → slice_get (texts ++ text ∷ []) j ≡ Some t → Gives name t
+      each j name t at_n at_t =
+          elim (slice_get-push (take i names) (get_or names i d) name j at_n) [
+            | inl before ↦
+                elim (slice_get-push texts text t j at_t) [
+                  | inl old ↦ so_far.each j name t before.1 old.1
+                  | inr last ↦ absurd (omega (arith, before.0, last.0, so_far.count))
+                ]
+            | inr name_last ↦
+                elim (slice_get-push texts text t j at_t) [
+                  | inl old ↦ absurd (omega (arith, name_last.0, old.0, so_far.count))
+                  | inr last ↦ subst (λ (x : InputName). Gives x t) name_last.1 (subst (Gives (get_or names i d)) last.1 one)
+                ]
+          ]
+
+  -- all are read
+  pub given_all : (i : ℕ) (texts : List (List ℕ)) → length names ≤ i → AreGiven Gives (take i names) texts → AreGiven Gives names texts
+  given_all i texts most so_far = subst (λ (l : List InputName). AreGiven Gives l texts) (take_all i names most) so_far

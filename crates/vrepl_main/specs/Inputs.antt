@@ -1,5 +1,5 @@
 -- The inputs of a command, and the refusal of one that can't be read (this profile).
-use Rattle.std.specs.Prelude.{◌≡◌, ◌<◌, ℕ, List, length, codes, get_or, Bool, true, false}
+use Rattle.std.specs.Prelude.{◌≡◌, ◌<◌, ℕ, List, length, Some, codes, get_or, slice_get, Bool, true, false}
 use Rattle.vrepl_main.specs.declared.input.InputName.{InputName}
 use Rattle.vrepl_main.specs.declared.input.InputName.TheVariants.{File, Standard}
 use Rattle.vrepl_main.specs.declared.refusal.CommandRefusal.{CommandRefusal}
@@ -14,6 +14,11 @@ input_name Standard = codes "-"
 abbrev pub is_standard : InputName → Bool
 is_standard (File name) = false
 is_standard Standard = true
+
+-- as many texts as names, and each text is one that the input of the name at its place gives
+pub record AreGiven (Gives : InputName → List ℕ → Type 0) (names : List InputName) (texts : List (List ℕ)) : Type 0 where
+  pub count : length texts ≡ length names
+  pub each : (i : ℕ) (name : InputName) (text : List ℕ) → slice_get names i ≡ Some name → slice_get texts i ≡ Some text → Gives name text
 
 -- the refusal is that the input of this name can't be read, or that memory ran out
 abbrev pub IsUnread : List ℕ → CommandRefusal → Type 0

@@ -5,10 +5,12 @@ ghost use Rattle.std.specs.Str.{bytes_eq};
 ghost use Rattle.std.specs.Io.KnownBytes.{IsAtEnd};
 ghost use Rattle.std.specs.IoError.{error_kind};
 ghost use Rattle.std.specs.declared.io.ErrorKind.TheVariants.{OutOfMemory};
-ghost use Rattle.vrepl_main.specs.Inputs.{is_standard, input_name, IsUnread, IsUnreadAmong};
+ghost use Rattle.vrepl_main.specs.InputList.{bytes_of};
+ghost use Rattle.vrepl_main.specs.Inputs.{is_standard, input_name, AreGiven, IsUnread, IsUnreadAmong};
 
 use crate::progress::{Reading, Untold};
 use crate::refusal::CommandRefusal;
+use crate::source::Source;
 use std::alloc::Global;
 use std::fs::{File, OpenFile};
 use std::io;
@@ -68,12 +70,14 @@ impl<'w> InputName<'w> {
 
 /// The bytes of inputs, read one after another, of which `told` is told. The first that can't be read is
 /// refused, and then no later one is asked for.
-pub fn read_inputs<'w, R: Files + Input + AllocGlobal, G: Reading>(
+pub fn read_inputs<'w, R: Source + AllocGlobal, G: Reading>(
     rt: &R,
     told: &G,
     names: &[InputName<'w>],
 ) -> Result<Vec<Vec<u8>>, CommandRefusal<'w>>
     ensures all { IfOk result (λ inputs. length inputs.items ≡ length names.now) }
+    // Each is read under the name at its place.
+    ensures given { IfOk result (λ inputs. AreGiven (R.gives rt.now) names.now (bytes_of inputs.items)) }
     ensures refused { IfErr result (IsUnreadAmong names.now) }
 {
     let mut inputs = Vec::with_capacity(rt.alloc(), names.len())?;
@@ -87,7 +91,19 @@ pub fn read_inputs<'w, R: Files + Input + AllocGlobal, G: Reading>(
 }
 
 /// The bytes of an input, of which `told` is told.
-pub fn read_input<'w, R: Files + Input + AllocGlobal, G: Reading>(
+pub fn read_input<'w, R: Source, G: Reading>(
+    rt: &R,
+    told: &G,
+    name: InputName<'w>,
+) -> Result<Vec<u8>, CommandRefusal<'w>>
+    ensures given { IfOk result (λ bytes. R.gives rt.now name.entry bytes.items) }
+    ensures refused { IfErr result (IsUnread (input_name name.entry)) }
+{
+    rt.read_named(told, name)
+}
+
+/// The bytes of an input that the system gives, of which `told` is told.
+pub(crate) fn read_system_input<'w, R: Files + Input + AllocGlobal, G: Reading>(
     rt: &R,
     told: &G,
     name: InputName<'w>,

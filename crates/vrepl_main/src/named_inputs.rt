@@ -1,7 +1,8 @@
 //! The inputs of the commands that have several, each by its name, read in the order of their command.
 
 ghost use Rattle.std.specs.Prelude.{◌≡◌, ◌∷◌, ◌++◌, [], length, map, IfErr, IfOk};
-ghost use Rattle.vrepl_main.specs.Inputs.{IsUnreadAmong};
+ghost use Rattle.vrepl_main.specs.InputList.{bytes_of};
+ghost use Rattle.vrepl_main.specs.Inputs.{AreGiven, IsUnreadAmong};
 ghost use Rattle.vrepl_main.specs.declared.input.InputName.TheVariants.{File, Standard};
 
 use crate::given::GivenFeed;
@@ -9,8 +10,8 @@ use crate::input::{InputName, read_input, read_inputs};
 use crate::input_list::{file_names, run_inputs};
 use crate::progress::{Reading, Untold};
 use crate::refusal::CommandRefusal;
+use crate::source::Source;
 use apply_core::Policy;
-use std::rt::Files;
 use vrepl_choices::{FeedForm, Threading, Until};
 
 /// How streams are run.
@@ -106,7 +107,7 @@ pub struct JoinFiles<'n, 'w> {
 
 /// Reads the inputs of `run`: the workflow's file, and the feeds' files. The first that can't be read is refused, and
 /// then no later one is asked for.
-pub fn read_run<'u, 'w, R: Files + Input + AllocGlobal>(
+pub fn read_run<'u, 'w, R: Source + AllocGlobal>(
     rt: &R,
     course: RunCourse,
     feed_form: FeedForm,
@@ -117,6 +118,9 @@ pub fn read_run<'u, 'w, R: Files + Input + AllocGlobal>(
     ensures course { IfOk result (λ inputs. inputs.course ≡ course) }
     ensures feed_form { IfOk result (λ inputs. inputs.feed_form ≡ feed_form) }
     ensures until { IfOk result (λ inputs. inputs.until.now ≡ until.entry.now) }
+    // Each is read under its own name: as many feeds as words, in their order.
+    ensures workflow { IfOk result (λ inputs. R.gives rt.now (File workflow.entry) inputs.workflow.items) }
+    ensures feeds { IfOk result (λ inputs. AreGiven (R.gives rt.now) (map File feeds.now) (bytes_of inputs.feeds.items)) }
     ensures refused { IfErr result (IsUnreadAmong (File workflow.entry ∷ map File feeds.now)) }
 {
     let plans = read_input(rt, &Untold, InputName::File(workflow))?;
@@ -132,7 +136,7 @@ pub fn read_run<'u, 'w, R: Files + Input + AllocGlobal>(
 
 /// Reads the inputs of `step` and of `save`: the workflow's file, the feeds' files, and the script from standard
 /// input. The first that can't be read is refused. `told` is told of what is read.
-pub fn read_step<'w, R: Files + Input + AllocGlobal, G: Reading>(
+pub fn read_step<'w, R: Source + AllocGlobal, G: Reading>(
     rt: &R,
     told: &G,
     feed_form: FeedForm,
@@ -140,6 +144,10 @@ pub fn read_step<'w, R: Files + Input + AllocGlobal, G: Reading>(
     feeds: &[&'w str],
 ) -> Result<Inputs, CommandRefusal<'w>>
     ensures feed_form { IfOk result (λ inputs. inputs.feed_form ≡ feed_form) }
+    // Each is read under its own name: as many feeds as words, in their order.
+    ensures workflow { IfOk result (λ inputs. R.gives rt.now (File workflow.entry) inputs.workflow.items) }
+    ensures feeds { IfOk result (λ inputs. AreGiven (R.gives rt.now) (map File feeds.now) (bytes_of inputs.feeds.items)) }
+    ensures script { IfOk result (λ inputs. R.gives rt.now Standard inputs.script.items) }
     ensures refused { IfErr result (IsUnreadAmong (File workflow.entry ∷ (map File feeds.now ++ Standard ∷ []))) }
 {
     let plans = read_input(rt, told, InputName::File(workflow))?;
@@ -154,7 +162,7 @@ pub fn read_step<'w, R: Files + Input + AllocGlobal, G: Reading>(
 }
 
 /// Reads the inputs of `resume`: the checkpoint's file, and then those of `step`.
-pub fn read_resume<'w, R: Files + Input + AllocGlobal, G: Reading>(
+pub fn read_resume<'w, R: Source + AllocGlobal, G: Reading>(
     rt: &R,
     told: &G,
     feed_form: FeedForm,
@@ -163,6 +171,11 @@ pub fn read_resume<'w, R: Files + Input + AllocGlobal, G: Reading>(
     feeds: &[&'w str],
 ) -> Result<ResumeInputs, CommandRefusal<'w>>
     ensures feed_form { IfOk result (λ inputs. inputs.step.feed_form ≡ feed_form) }
+    // Each is read under its own name: as many feeds as words, in their order.
+    ensures checkpoint { IfOk result (λ inputs. R.gives rt.now (File checkpoint.entry) inputs.checkpoint.items) }
+    ensures workflow { IfOk result (λ inputs. R.gives rt.now (File workflow.entry) inputs.step.workflow.items) }
+    ensures feeds { IfOk result (λ inputs. AreGiven (R.gives rt.now) (map File feeds.now) (bytes_of inputs.step.feeds.items)) }
+    ensures script { IfOk result (λ inputs. R.gives rt.now Standard inputs.step.script.items) }
     ensures refused { IfErr result (IsUnreadAmong (File checkpoint.entry ∷ File workflow.entry ∷ (map File feeds.now ++ Standard ∷ []))) }
 {
     let saved = read_input(rt, told, InputName::File(checkpoint))?;
@@ -174,13 +187,18 @@ pub fn read_resume<'w, R: Files + Input + AllocGlobal, G: Reading>(
 }
 
 /// Reads the inputs of `join`: the workflow's file, the checkpoints' files in their order, and the feeds' files.
-pub fn read_join<'w, R: Files + Input + AllocGlobal, G: Reading>(
+pub fn read_join<'w, R: Source + AllocGlobal, G: Reading>(
     rt: &R,
     told: &G,
     feed_form: FeedForm,
     files: &JoinFiles<'_, 'w>,
 ) -> Result<JoinInputs, CommandRefusal<'w>>
     ensures feed_form { IfOk result (λ inputs. inputs.feed_form ≡ feed_form) }
+    // Each is read under its own name: as many feeds and as many further checkpoints as words, in their order.
+    ensures workflow { IfOk result (λ inputs. R.gives rt.now (File files.now.workflow) inputs.workflow.items) }
+    ensures one { IfOk result (λ inputs. R.gives rt.now (File files.now.one) inputs.one.items) }
+    ensures others { IfOk result (λ inputs. AreGiven (R.gives rt.now) (File files.now.other ∷ map File files.now.more.now) (bytes_of inputs.others.items)) }
+    ensures feeds { IfOk result (λ inputs. AreGiven (R.gives rt.now) (map File files.now.feeds.now) (bytes_of inputs.feeds.items)) }
     ensures refused { IfErr result (IsUnreadAmong (File files.now.workflow ∷ File files.now.one ∷ File files.now.other ∷ (map File files.now.more.now ++ map File files.now.feeds.now))) }
 {
     let workflow = read_input(rt, told, InputName::File(files.workflow))?;
@@ -198,12 +216,13 @@ pub fn read_join<'w, R: Files + Input + AllocGlobal, G: Reading>(
 }
 
 /// The bytes of files, read one after another, as `read_inputs` reads them.
-fn read_files<'w, R: Files + Input + AllocGlobal, G: Reading>(
+fn read_files<'w, R: Source + AllocGlobal, G: Reading>(
     rt: &R,
     told: &G,
     files: &[&'w str],
 ) -> Result<Vec<Vec<u8>>, CommandRefusal<'w>>
     ensures all { IfOk result (λ read. length read.items ≡ length files.now) }
+    ensures given { IfOk result (λ read. AreGiven (R.gives rt.now) (map File files.now) (bytes_of read.items)) }
     ensures refused { IfErr result (IsUnreadAmong (map File files.now)) }
 {
     let names = file_names(rt.alloc(), files)?;
