@@ -9,6 +9,7 @@ use Rattle.checkpoint_laws.specs.declared.fault.ResumeFault.{ResumeFault}
 use Rattle.vrepl_main.specs.ResumedRun.{IsRefusedOver}
 use Rattle.std.specs.Prelude.{slice_get}
 use Rattle.source_feed.specs.Planned.{FeedValue}
+use Rattle.board_laws.specs.FedBoards.{IsFedBoard}
 use Rattle.board_laws.specs.Meaning.{Meaning}
 use Rattle.board_laws.specs.Sources.{ShowAll}
 use Rattle.join_laws.specs.Compatible.{AreCompatible}
@@ -78,9 +79,10 @@ module _ (given : OpenedValue) (one : List ℕ) (others : List (List ℕ)) (i : 
   other_refused plan fault refused = record { checkpoint = checkpoint; a = board; before = before_it; refused = refused }
 
 -- all are joined
-pub all_joined : (given : OpenedValue) (one : List ℕ) (others : List (List ℕ)) (i : ℕ) (board : Meaning) → length others ≤ i → AreJoined given.feeds one (take i others) board → ShowAll given.feeds board
+pub all_joined : (given : OpenedValue) (one : List ℕ) (others : List (List ℕ)) (i : ℕ) (board : Meaning) → length others ≤ i → AreJoined given.feeds one (take i others) board → IsFedBoard given.feeds board → ShowAll given.feeds board
     → IsJoinOver given one others board
-all_joined given one others i board most so_far sources = record {
+all_joined given one others i board most so_far fed sources = record {
   is_join = subst (λ (list : List (List ℕ)). AreJoined given.feeds one list board) (take_all i others most) so_far;
+  fed = fed;
   sources = sources;
 }

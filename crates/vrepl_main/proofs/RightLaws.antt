@@ -1,4 +1,4 @@
--- What `run` writes with status 0, in bytes alone.
+-- What the commands hand on, in bytes alone.
 use Rattle.std.proofs.Common.{◌≡◌, ◌≢◌, ◌∙◌, ℕ, zero, suc, Bool, true, false, List, [], ◌∷◌, length, map, Option, Some, None, Result, Ok, Err, refl, sym, ap, subst, arith}
 use Rattle.std.specs.Prelude.{◌==◌, not, slice_get}
 use Rattle.std.specs.Option.{option_or}
@@ -16,34 +16,34 @@ use Rattle.source_feed.specs.declared.fault.FeedFault.{FeedFault}
 use Rattle.vdiff_core.specs.Dump.{dump_of}
 use Rattle.vdiff_core.specs.DumpRowsValue.{DumpRowsValue, row_with_key}
 use Rattle.vdiff_core.specs.Printing.{Written, IsWritten}
-use Rattle.apply_core.specs.Ended.{IsRowsUnion, kept_of_feed, kept_by}
+use Rattle.apply_core.specs.Ended.{AreSound, IsRowsUnion, kept_of_feed, kept_by}
 use Rattle.vrepl_main.specs.HexText.{feed_bytes}
 use Rattle.vrepl_main.specs.InputList.{bytes_of}
 use Rattle.vrepl_choices.specs.UntilValue.{UntilValue, until_value}
-use Rattle.feed_ends.specs.EndedFeeds.{ended_feeds}
+use Rattle.feed_ends.specs.EndedFeeds.{AreEnded, ended_feeds}
 use Rattle.feed_ends.specs.Faults.{EndReason}
 use Rattle.feed_ends.proofs.EndLaws.{are_ended}
 use Rattle.vrepl_main.specs.Ending.{ended_over, opened_until}
-use Rattle.vrepl_main.specs.Opening.{OpenedValue, feed_under, opened, opened_feed, opened_feeds, opened_then, opened_with, opened_bytes, said_plans}
+use Rattle.vrepl_main.specs.Opening.{OpenedValue, feed_under, opened_feed, opened_feeds, opened_then, opened_with, opened_bytes, said_plans}
 use Rattle.vrepl_main.specs.Reasons.{Reason, feed_count}
 use Rattle.vrepl_main.specs.RunIsRight.{IsOpened, AreOpened, Keeps, AreKeptRows, RunIsRight, WritesRight}
-use Rattle.vrepl_main.specs.Running.{IsFilled, IsFilledBy, PrintsDump, opened_asked}
+use Rattle.vrepl_main.specs.Running.{IsFilled, PrintsDump, opened_asked}
 use Rattle.vrepl_main.specs.declared.named_inputs.RunInputs.{RunInputs}
 
 -- ---- what was opened
 
-abbrev ok : {A : Type 0} → A → Result A Reason
+abbrev pub ok : {A : Type 0} → A → Result A Reason
 ok x = Ok x
 
 -- what a fault can't give
-never : {A : Type 0} (reason : Reason) (x : A) → Err reason ≡ ok x → ⊥
+pub never : {A : Type 0} (reason : Reason) (x : A) → Err reason ≡ ok x → ⊥
 never reason x e = none-some x (ap result_ok e)
 
 -- the bytes of feeds that could be opened
-record Opens (plans : List PlanValue) (given : List (Option (List ℕ))) (feeds : List FeedValue) : Type 0 where
-  bytes : List (List ℕ)
-  are : given ≡ map Some bytes
-  fed : AreOpened plans bytes feeds
+pub record Opens (plans : List PlanValue) (given : List (Option (List ℕ))) (feeds : List FeedValue) : Type 0 where
+  pub bytes : List (List ℕ)
+  pub are : given ≡ map Some bytes
+  pub fed : AreOpened plans bytes feeds
 
 opens-one : (plan : PlanValue) (o : Option (List ℕ)) (feed : FeedValue) → opened_feed plan o ≡ Ok feed → (bytes : List ℕ) × (o ≡ Some bytes) × IsOpened plan bytes feed
 opens-one plan None feed e = absurd (never _ feed e)
@@ -88,11 +88,11 @@ opens (plan ∷ plans) (o ∷ given) feeds long e =
         (subst (λ (x : Option (List ℕ)). Opens (plan ∷ plans) (x ∷ given) (feed ∷ later)) (sym one.1) (opens-more plan one.0 feed plans given later one.2 (rest later are)))
 
 -- a workflow's plans with their feeds
-record SaysWhole (workflow : List ℕ) (given : List (Option (List ℕ))) (found : OpenedValue) : Type 0 where
-  says : plans_of workflow ≡ Ok found.plans
-  fed : Opens found.plans given found.feeds
+pub record SaysWhole (workflow : List ℕ) (given : List (Option (List ℕ))) (found : OpenedValue) : Type 0 where
+  pub says : plans_of workflow ≡ Ok found.plans
+  pub fed : Opens found.plans given found.feeds
 
-says_whole : (workflow : List ℕ) (given : List (Option (List ℕ))) (found : OpenedValue) → opened_bytes workflow given ≡ Ok found → SaysWhole workflow given found
+pub says_whole : (workflow : List ℕ) (given : List (Option (List ℕ))) (found : OpenedValue) → opened_bytes workflow given ≡ Ok found → SaysWhole workflow given found
 says_whole workflow given found e = by (plans_of workflow) refl e
   where
     as_many : (b : Bool) → not b ≡ false → b ≡ true
@@ -111,6 +111,29 @@ says_whole workflow given found e = by (plans_of workflow) refl e
     by : (r : Result (List PlanValue) faults.Fault) → plans_of workflow ≡ r → (said_plans r >>= opened_with given) ≡ Ok found → SaysWhole workflow given found
     by (Err fault) is e = absurd (never _ found e)
     by (Ok plans) is e = of_plans plans is (not (length plans == length given)) refl (opened_feeds plans given) refl e
+
+-- the same with the feeds up to positions
+pub record SaysUntil (workflow : List ℕ) (given : List (Option (List ℕ))) (untils : List UntilValue) (found : OpenedValue) : Type 0 where
+  pub says : plans_of workflow ≡ Ok found.plans
+  pub whole : List FeedValue
+  pub fed : Opens found.plans given whole
+  pub ended : AreEnded untils whole found.feeds
+
+pub says_until : (workflow : List ℕ) (given : List (Option (List ℕ))) (untils : List UntilValue) (found : OpenedValue) → opened_until untils (opened_bytes workflow given) ≡ Ok found → SaysUntil workflow given untils found
+says_until workflow given untils found e = by (opened_bytes workflow given) refl e
+  where
+    of_ends : (whole : OpenedValue) → opened_bytes workflow given ≡ Ok whole → (r : Result (List FeedValue) EndReason) → ended_feeds untils whole.feeds ≡ r → ended_over whole.plans r ≡ Ok found
+        → SaysUntil workflow given untils found
+    of_ends whole is (Err reason) ends e = absurd (never _ found e)
+    of_ends whole is (Ok feeds) ends e =
+        let same : record { plans = whole.plans; feeds = feeds } ≡ found = same_Some (record { plans = whole.plans; feeds = feeds }) found (ap result_ok e) in
+        let says : SaysWhole workflow given whole = says_whole workflow given whole is in
+        subst (SaysUntil workflow given untils) same
+        (record { says = says.says; whole = whole.feeds; fed = says.fed; ended = are_ended untils whole.feeds feeds ends })
+
+    by : (r : Result OpenedValue Reason) → opened_bytes workflow given ≡ r → opened_until untils r ≡ Ok found → SaysUntil workflow given untils found
+    by (Err reason) is e = absurd (never reason found e)
+    by (Ok whole) is e = of_ends whole is (ended_feeds untils whole.feeds) refl e
 
 -- ---- the rows
 
@@ -156,8 +179,26 @@ kept_rows feeds rows union = record {
 
 -- ---- the text
 
+-- the dump of the rows that the feeds keep
+pub run_is_right : (workflow : List ℕ) (given : List (Option (List ℕ))) (untils : List UntilValue) (found : OpenedValue) (says : SaysUntil workflow given untils found) (rows : DumpRowsValue) (first : PlanValue)
+    → AreSound found.feeds → IsRowsUnion found.feeds rows → slice_get found.plans 0 ≡ Some first → RunIsRight workflow says.fed.bytes untils (dump_of first rows)
+run_is_right workflow given untils found says rows first sound union tables = record {
+  plans = found.plans;
+  says = says.says;
+  whole = says.whole;
+  fed = says.fed.fed;
+  opened = found.feeds;
+  ended = says.ended;
+  sound = sound;
+  rows = rows;
+  kept = kept_rows found.feeds rows union;
+  first = first;
+  tables = tables;
+  dump = refl;
+}
+
 pub writes_right : (inputs : RunInputs) (old new : Written) → PrintsDump (opened_asked inputs) old new → WritesRight inputs old new
-writes_right inputs old new (filled, is, written) = by (opened inputs.feed_form inputs.workflow.items (bytes_of inputs.feeds.items)) refl is
+writes_right inputs old new (filled, is, written) = by (opened_asked inputs) refl is
   where
     given : List (Option (List ℕ))
     given = map (feed_bytes inputs.feed_form) (bytes_of inputs.feeds.items)
@@ -165,35 +206,13 @@ writes_right inputs old new (filled, is, written) = by (opened inputs.feed_form 
     untils : List UntilValue
     untils = map until_value inputs.until.now
 
-    right : (whole : OpenedValue) (feeds : List FeedValue) → opened inputs.feed_form inputs.workflow.items (bytes_of inputs.feeds.items) ≡ Ok whole → ended_feeds untils whole.feeds ≡ Ok feeds
-        → IsFilledBy (record { plans = whole.plans; feeds = feeds }) filled → WritesRight inputs old new
-    right whole feeds e ends is =
-        let says : SaysWhole inputs.workflow.items given whole = says_whole inputs.workflow.items given whole e in (
+    by : (r : Result OpenedValue Reason) → opened_asked inputs ≡ r → IsFilled r filled → WritesRight inputs old new
+    by (Err reason) e is = absurd is
+    by (Ok found) e is =
+        let says : SaysUntil inputs.workflow.items given untils found = says_until inputs.workflow.items given untils found e in (
           says.fed.bytes,
           says.fed.are,
           dump_of filled.plan filled.rows,
-          record {
-            plans = whole.plans;
-            says = says.says;
-            whole = whole.feeds;
-            fed = says.fed.fed;
-            opened = feeds;
-            ended = are_ended untils whole.feeds feeds ends;
-            sound = is.ends.sound;
-            rows = filled.rows;
-            kept = kept_rows feeds filled.rows (subst (IsRowsUnion feeds) (sym is.rows) is.ends.union);
-            first = filled.plan;
-            tables = is.first;
-            dump = refl;
-          },
+          run_is_right inputs.workflow.items given untils found says filled.rows filled.plan is.ends.sound (subst (IsRowsUnion found.feeds) (sym is.rows) is.ends.union) is.first,
           written,
         )
-
-    of_ends : (whole : OpenedValue) (r : Result (List FeedValue) EndReason) → ended_feeds untils whole.feeds ≡ r → opened inputs.feed_form inputs.workflow.items (bytes_of inputs.feeds.items) ≡ Ok whole
-        → IsFilled (ended_over whole.plans r) filled → WritesRight inputs old new
-    of_ends whole (Err reason) ends e is = absurd is
-    of_ends whole (Ok feeds) ends e is = right whole feeds e ends is
-
-    by : (r : Result OpenedValue Reason) → opened inputs.feed_form inputs.workflow.items (bytes_of inputs.feeds.items) ≡ r → IsFilled (opened_until untils r) filled → WritesRight inputs old new
-    by (Err reason) e is = absurd is
-    by (Ok whole) e is = of_ends whole (ended_feeds untils whole.feeds) refl e is

@@ -7,6 +7,7 @@ use Rattle.std.specs.List.{filter}
 use Rattle.std.specs.Prelude.{◌&&◌, if◌then◌else◌, nat_lt}
 use Rattle.filter_rule.specs.PlanValue.{PlanValue}
 use Rattle.source_feed.specs.Planned.{FeedValue}
+use Rattle.board_laws.specs.FedBoards.{IsFedBoard}
 use Rattle.board_laws.specs.Meaning.{Meaning}
 use Rattle.board_laws.specs.Sources.{ShowAll}
 use Rattle.checkpoint_laws.specs.Written.{checkpoint_of}
@@ -35,10 +36,10 @@ unwritten_save (Err reason) refusal saved old new is broken unwritten = absurd i
 
 -- the board behind the steps, which took each of them
 pub saved_by : (plans : List PlanValue) (feeds : List FeedValue) (steps : List ScriptStep) (refused : ℕ) (board : Meaning) (bytes : List ℕ)
-    → IsBehind feeds (fresh_board plans) steps refused board → ShowAll feeds board → bytes ≡ checkpoint_of board
+    → IsBehind feeds (fresh_board plans) steps refused board → IsFedBoard feeds board → ShowAll feeds board → bytes ≡ checkpoint_of board
     → IsSavedBehind (record { opened = record { plans = plans; feeds = feeds }; steps = steps }) refused bytes
-saved_by plans feeds steps refused board bytes (replies, run, told, counted) sources saved =
-    record { replies = replies; board = board; run = run; told = told; counted = counted; sources = sources; checkpoint = saved }
+saved_by plans feeds steps refused board bytes (replies, run, told, counted) fed sources saved =
+    record { replies = replies; board = board; run = run; told = told; counted = counted; fed = fed; sources = sources; checkpoint = saved }
 
 -- ---- how many are refused
 

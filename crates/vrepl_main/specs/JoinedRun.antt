@@ -3,6 +3,7 @@ use Rattle.std.specs.Prelude.{◌≡◌, ℕ, List, [], ◌∷◌, take, Some, R
 use Rattle.std.specs.Arc.{arc_value}
 use Rattle.filter_rule.specs.PlanValue.{PlanValue}
 use Rattle.source_feed.specs.Planned.{FeedValue}
+use Rattle.board_laws.specs.FedBoards.{IsFedBoard}
 use Rattle.board_laws.specs.Meaning.{Meaning}
 use Rattle.board_laws.specs.Sources.{ShowAll}
 use Rattle.join_laws.specs.Compatible.{AreCompatible}
@@ -41,9 +42,10 @@ AreJoinedTo feeds a (checkpoint ∷ others) board = (b : Meaning) × IsResumed f
 abbrev pub AreJoined : List FeedValue → List ℕ → List (List ℕ) → Meaning → Type 0
 AreJoined feeds one others board = (a : Meaning) × IsResumed feeds one a × AreJoinedTo feeds a others board
 
--- this is the join of the boards that checkpoints make with the feeds, and shows all its sources
+-- this is the join of the boards that checkpoints make with the feeds; it reads these and shows all its sources
 pub record IsJoinOver (given : OpenedValue) (one : List ℕ) (others : List (List ℕ)) (board : Meaning) : Type 0 where
   pub is_join : AreJoined given.feeds one others board
+  pub fed : IsFedBoard given.feeds board
   pub sources : ShowAll given.feeds board
 
 -- the bytes are the checkpoint of the join

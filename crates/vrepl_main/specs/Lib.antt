@@ -28,3 +28,4 @@ pub mod RunIsRight
 pub mod Ending
 pub mod Followed
 pub mod OnlyFollowed
+pub mod CheckpointIsRight

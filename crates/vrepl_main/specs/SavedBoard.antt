@@ -1,6 +1,7 @@
 -- What the command `save` leaves on its writers (this profile).
 use Rattle.std.specs.Prelude.{◌≡◌, ◌<◌, ◌&&◌, ◌⊎◌, ◌++◌, ℕ, nat_lt, if◌then◌else◌, Bool, List, length, Result, Ok, Err, codes, decimal}
 use Rattle.std.specs.List.{AllByRecursion}
+use Rattle.board_laws.specs.FedBoards.{IsFedBoard}
 use Rattle.board_laws.specs.Meaning.{Meaning}
 use Rattle.board_laws.specs.Sources.{ShowAll}
 use Rattle.checkpoint_laws.specs.Written.{checkpoint_of}
@@ -19,14 +20,15 @@ abbrev pub IsBehind : List FeedValue → Meaning → List ScriptStep → ℕ →
 IsBehind feeds start steps refused board =
     (replies : List ScriptReply) × IsScriptRun feeds start steps replies board × AllByRecursion IsTold replies × (refused ≡ refused_count replies)
 
--- the bytes are the checkpoint of the board behind the steps of a script, whatever they reply but want of memory; it shows
--- all its sources, and so many of the steps are refused
+-- the bytes are the checkpoint of the board behind the steps of a script, whatever they reply but want of memory; it reads
+-- its feeds and shows all its sources, and so many of the steps are refused
 pub record IsSavedBehind (given : ScriptGiven) (refused : ℕ) (bytes : List ℕ) : Type 0 where
   pub replies : List ScriptReply
   pub board : Meaning
   pub run : IsScriptRun given.opened.feeds (fresh_board given.opened.plans) given.steps replies board
   pub told : AllByRecursion IsTold replies
   pub counted : refused ≡ refused_count replies
+  pub fed : IsFedBoard given.opened.feeds board
   pub sources : ShowAll given.opened.feeds board
   pub checkpoint : bytes ≡ checkpoint_of board
 

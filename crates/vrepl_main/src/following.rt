@@ -6,6 +6,7 @@ ghost use Rattle.vdiff_core.specs.Dump.{dump_of};
 ghost use Rattle.vdiff_core.specs.Printing.{Prints};
 ghost use Rattle.apply_core.specs.Shown.{all_rows};
 ghost use Rattle.vrepl_main.specs.Running.{IsAtFeedsEnds};
+ghost use Rattle.vrepl_main.specs.CheckpointIsRight.{FollowsRight};
 ghost use Rattle.vrepl_main.specs.Followed.{IsFollowed, RefusesFollow, follow_refusal_line, follow_asked, saved_asked, HasTakenUp, HasNotFollowed};
 ghost use Rattle.vrepl_main.specs.Printing.{PrintsOrBreaks};
 
@@ -122,6 +123,8 @@ pub fn follow<'h, R: Threads + Wait + Sync, G: Progress + Sync>(
 ) -> Result<Followed<'h>, Unfollowed>
     ensures followed { IfOk result (IsFollowed (follow_asked inputs.now) (saved_asked inputs.now)) }
     ensures refused { IfErr result (λ refusal. RefusesFollow refusal (follow_asked inputs.now) (saved_asked inputs.now)) }
+    // In bytes alone: the checkpoint and the board are those that the workflow and the feeds make.
+    ensures right { IfOk result (FollowsRight inputs.now) }
 {
     let opened = open_streams(
         rt,

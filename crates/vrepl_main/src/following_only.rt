@@ -5,6 +5,7 @@ ghost use Rattle.std.specs.Arc.{arc_value};
 ghost use Rattle.std.specs.List.{list_all};
 ghost use Rattle.filter_rule.specs.WellFormed.{ArePlans};
 ghost use Rattle.apply_core.specs.Ended.{IsNamedStream};
+ghost use Rattle.vrepl_main.specs.CheckpointIsRight.{FollowsOnlyRight};
 ghost use Rattle.vrepl_main.specs.Followed.{RefusesFollow, saved_asked, HasNotFollowed, IsEndedRun};
 ghost use Rattle.vrepl_main.specs.Given.{given_value};
 ghost use Rattle.vrepl_main.specs.OnlyFollowed.{IsMovedOn, IsOnlyFollowed, have_streams, named_plans, opened_for, only_asked, AreThere, HasMovedOn};
@@ -47,6 +48,8 @@ pub fn follow_only<'h, R: Threads + Sync, G: Progress>(
 ) -> Result<Followed<'h>, Unfollowed>
     ensures followed { IfOk result (IsOnlyFollowed (only_asked only.now inputs.now) only.now (saved_asked inputs.now)) }
     ensures refused { IfErr result (λ refusal. RefusesFollow refusal (only_asked only.now inputs.now) (saved_asked inputs.now)) }
+    // In bytes alone: the checkpoint and the board are those that the workflow and the feeds make.
+    ensures right { IfOk result (FollowsOnlyRight inputs.now only.now) }
 {
     let course = inputs.course;
     let opened = open_for(

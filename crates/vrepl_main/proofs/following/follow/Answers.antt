@@ -1,6 +1,7 @@
 use Rattle.std.specs.Arc.{arc_value}
 use Rattle.vrepl_main.specs.OpenedFeeds.{opened_value}
 use Rattle.vrepl_main.proofs.FollowLaws.{followed_by}
+use Rattle.vrepl_main.proofs.HandedOnLaws.{follows_right}
 use Rattle.vrepl_main.specs.Followed.{follow_asked, saved_asked}
 use Rattle.vrepl_main.proofs.following.follow.Goals as goal
 
@@ -10,3 +11,11 @@ returns-clause-followed g c =
     (record { plan = arc_value c.in_ok-plan.plan; checkpoint = c.in_ok-checkpoint.checkpoint.items; board = c.in_ok-fed.fed.board })
     c.in_ok-opened.ensures.opened (rw c.deref.ensures.value at c.in_ok-plan.ensures) c.in_ok-fed.ensures.taken_up c.in_ok-fed.ensures.ends
     (rw c.board.ensures.board at c.in_ok-checkpoint.ensures)
+
+pub returns-clause-right : goal.returns-clause-right
+returns-clause-right g c =
+    follows_right c.args.inputs.now (record { plan = arc_value c.in_ok-plan.plan; checkpoint = c.in_ok-checkpoint.checkpoint.items; board = c.in_ok-fed.fed.board })
+    (followed_by (follow_asked c.args.inputs.now) (opened_value c.in_ok-opened.opened) (saved_asked c.args.inputs.now)
+    (record { plan = arc_value c.in_ok-plan.plan; checkpoint = c.in_ok-checkpoint.checkpoint.items; board = c.in_ok-fed.fed.board })
+    c.in_ok-opened.ensures.opened (rw c.deref.ensures.value at c.in_ok-plan.ensures) c.in_ok-fed.ensures.taken_up c.in_ok-fed.ensures.ends
+    (rw c.board.ensures.board at c.in_ok-checkpoint.ensures))

@@ -41,7 +41,7 @@ pub returns-clause-joined : goal.returns-clause-joined
 returns-clause-joined g c =
     let many : length (bytes_of c.args.others.now) ≡ length c.args.others.now = length-map c.args.others.now (λ other. other.items) in
     all_joined (opened_value c.args.opened.now) c.args.one.now (bytes_of c.args.others.now) c.loop-i.i c.loop-i.board (omega (arith, many, c.loop-i-test.false)) c.loop-i.invariant.0
-    (c.fed_boards_show_all.ensures.show c.args.opened.now.feeds.items c.loop-i.board c.loop-i.invariant.1)
+    c.loop-i.invariant.1 (c.fed_boards_show_all.ensures.show c.args.opened.now.feeds.items c.loop-i.board c.loop-i.invariant.1)
 
 pub returns-in-Err-clause-refused : goal.returns-in-Err-clause-refused
 returns-in-Err-clause-refused g c = record { first = c.requires.first; refused = rw (c.as_slice-plans.ensures.value, c.as_slice-feeds.ensures.value) at c.in-Err.ensures.refused }

@@ -4,6 +4,7 @@ use Rattle.vrepl_main.specs.InputList.{bytes_of}
 use Rattle.vrepl_main.specs.OpenedFeeds.{opened_value}
 use Rattle.vrepl_main.specs.Opening.{OpenedValue}
 use Rattle.vrepl_main.specs.Reasons.{Reason, RefusesInputs}
+use Rattle.vrepl_main.proofs.HandedOnLaws.{makes_joined}
 use Rattle.vrepl_main.proofs.JoinedLaws.{saved_as, refused_as}
 use Rattle.vrepl_main.proofs.RunLaws.{given_as}
 use Rattle.vrepl_main.proofs.joining.joined_checkpoint.Goals as goal
@@ -29,3 +30,11 @@ returns-in-Ok-checkpoint-clause-saved g c =
     let e = given_as inputs.feeds.items (λ feed. feed.items) inputs.feed_form inputs.workflow.items _ (rw c.deref.ensures.value at c.in-Ok.ensures) in
     saved_as inputs.one.items (bytes_of inputs.others.items) (Ok (opened_value c.in_ok-opened.opened)) _ (sym (rw (c.deref-2.ensures.value, c.deref-3.ensures.value) at c.in_ok-opened.ensures.opened) ∙ e) c.in-Ok-checkpoint.bytes.items
     (c.in_ok-board.board, (rw (c.deref-5.ensures.value, c.deref-6.ensures.value) at c.in_ok-board.ensures.joined), c.in-Ok-checkpoint.ensures)
+
+pub returns-in-Ok-checkpoint-clause-right : goal.returns-in-Ok-checkpoint-clause-right
+returns-in-Ok-checkpoint-clause-right g c =
+    let inputs = c.args.inputs.now in
+    let e = given_as inputs.feeds.items (λ feed. feed.items) inputs.feed_form inputs.workflow.items _ (rw c.deref.ensures.value at c.in-Ok.ensures) in
+    makes_joined inputs c.in-Ok-checkpoint.bytes.items
+    (saved_as inputs.one.items (bytes_of inputs.others.items) (Ok (opened_value c.in_ok-opened.opened)) _ (sym (rw (c.deref-2.ensures.value, c.deref-3.ensures.value) at c.in_ok-opened.ensures.opened) ∙ e) c.in-Ok-checkpoint.bytes.items
+    (c.in_ok-board.board, (rw (c.deref-5.ensures.value, c.deref-6.ensures.value) at c.in_ok-board.ensures.joined), c.in-Ok-checkpoint.ensures))

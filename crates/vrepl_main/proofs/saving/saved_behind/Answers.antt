@@ -14,4 +14,4 @@ pub returns-clause-behind : goal.returns-clause-behind
 returns-clause-behind c =
     let given = c.args.scripted in
     saved_by (map arc_value given.opened.plans.items) given.opened.feeds.items given.steps.items _ _ c.in_ok-bytes.bytes.items
-    (rw c.deref.ensures.value at c.in_ok-fed.ensures.taken) c.in_ok-fed.ensures.sources (rw c.board.ensures.board at c.in_ok-bytes.ensures)
+    (rw c.deref.ensures.value at c.in_ok-fed.ensures.taken) c.in_ok-fed.ensures.fed c.in_ok-fed.ensures.sources (rw c.board.ensures.board at c.in_ok-bytes.ensures)
