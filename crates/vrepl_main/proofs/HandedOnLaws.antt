@@ -144,6 +144,7 @@ module _ (inputs : FollowInputs) (followed : FollowedValue) where
   untils = map until_value inputs.until.now
 
   pub follows_right : IsFollowed (follow_asked inputs) (saved_asked inputs) followed → FollowsRight inputs followed
+  unfolding given untils
   follows_right is = by (follow_asked inputs) refl is
     where
       by : (r : Result OpenedValue Reason) → follow_asked inputs ≡ r → IsFollowed r (saved_asked inputs) followed → FollowsRight inputs followed
@@ -176,6 +177,7 @@ module _ (inputs : FollowInputs) (followed : FollowedValue) where
       by (Ok plans) e = there plans (not (have_streams only plans)) e
 
   pub follows_only_right : (only : List ℕ) → IsOnlyFollowed (only_asked only inputs) only (saved_asked inputs) followed → FollowsOnlyRight inputs only followed
+  unfolding given untils shows_until
   follows_only_right only is = by (only_asked only inputs) refl is
     where
       by : (r : Result OpenedValue Reason) → only_asked only inputs ≡ r → IsOnlyFollowed r only (saved_asked inputs) followed → FollowsOnlyRight inputs only followed
