@@ -1,10 +1,11 @@
 -- What a cut says of the feed, and the names of its rows' tables.
 use Rattle.std.proofs.Common.{◌≡◌, ◌⊎◌, ℕ, zero, suc, ◌-◌, ◌<◌, ◌≤◌, ◌||◌, List, [], ◌∷◌, ◌++◌, length, map, reverse, take, Bool, true, false, Some, Result, Ok, Err, refl, sym, ap, subst, ◌∙◌, inl, inr, arith}
 use Rattle.std.proofs.lemmas.Bool.{cases_Bool, cond-true, cond-false}
-use Rattle.std.proofs.lemmas.List.{length-append, length-map, reverse-append, reverse-reverse}
+use Rattle.std.proofs.lemmas.List.{length-append, length-map, reverse-append, reverse-reverse, take_at}
 use Rattle.std.proofs.lemmas.Option.{none-some}
 use Rattle.std.specs.Cmp.Lexicographic.{same_text}
 use Rattle.std.specs.List.{AllByRecursion, list_any}
+use Rattle.std.specs.Prelude.{is_none}
 use Rattle.std.specs.Str.{bytes_eq}
 use Rattle.list_laws.proofs.Fronts.{each}
 use Rattle.filter_rule.specs.PlanValue.{PlanValue, table_of_name}
@@ -17,7 +18,7 @@ use Rattle.vevent.specs.declared.fault.EventFault.{EventFault}
 use Rattle.source_feed.specs.declared.fault.FeedFault.{FeedFault}
 use Rattle.source_feed.specs.declared.fault.FeedFault.TheVariants.{FieldsDiffer}
 use Rattle.source_feed.specs.EventList.{events_of_feed}
-use Rattle.source_feed.specs.GroupValue.{GroupValue}
+use Rattle.source_feed.specs.GroupValue.{GroupValue, TableChangeValue}
 use Rattle.source_feed.specs.Groups.{groups_of, groups}
 use Rattle.source_feed.specs.Image.{ImageRows}
 use Rattle.source_feed.specs.PastEvents.{PastEvents, last_field}
@@ -25,9 +26,10 @@ use Rattle.source_feed.specs.Planned.{source_of, differs, planned_group, planned
 use Rattle.source_feed.specs.SoundGroups.{sound_groups}
 use Rattle.source_feed.specs.SourceValue.{SourceValue, table_in_source}
 use Rattle.event_laws.specs.InForce.{in_force}
+use Rattle.event_laws.specs.Laws.{ChangesHaveColumns, HasColumns, HaveColumns}
 use Rattle.event_laws.proofs.BaseLaws.{all-reverse}
 use Rattle.event_laws.proofs.InForceLaws.{say_the_columns}
-use Rattle.event_laws.proofs.RunLaws.{Ended, ended, groups_behind}
+use Rattle.event_laws.proofs.RunLaws.{Ended, ended, front_faultless, groups_behind}
 use Rattle.feed_bytes.specs.Cut.{IsCutBehind}
 use Rattle.feed_bytes.specs.FieldBytes.{FieldBytesValue, IsNamed, AreInForce}
 use Rattle.feed_bytes.proofs.SearchLaws.{to_end}
@@ -36,8 +38,9 @@ use Rattle.compaction_laws.specs.CompactedFeed.{groups_to}
 use Rattle.compaction_laws.specs.Laws.{LeftRowsHaveColumns, SaysColumnsOf}
 use Rattle.compaction_laws.proofs.BytesLaws.{opened_of}
 use Rattle.compaction.specs.Compacting.{HasGroup, LosesSome, CutsFeed, loses, is_unknown, have_unknown}
-use Rattle.compaction.specs.Private.Written.{IsNameOf, AreOfOthers, HasName, AreNamed}
+use Rattle.compaction.specs.Private.Written.{IsNameOf, IsOfPlan, AreOfOthers, HasName, AreNamed}
 use Rattle.compaction.specs.declared.cut.UnknownTables.{UnknownTables}
+use Rattle.compaction.specs.declared.cut.UnknownTables.TheVariants.{Refused, LeftOut}
 
 abbrev Groups : Type 0
 Groups = Result (List GroupValue) FeedFault
@@ -56,6 +59,15 @@ planned_none fault made e = cc
 
 same_planned : (a b : List PlannedGroupValue) → some_planned a ≡ some_planned b → a ≡ b
 same_planned a b e = cc
+
+abbrev Read : Type 0
+Read = Result EventValue EventFault
+
+abbrev good : EventValue → Read
+good event = Ok event
+
+same_good : (a b : EventValue) → good a ≡ good b → a ≡ b
+same_good a b e = cc
 
 -- ---- the groups that a feed has
 
@@ -97,6 +109,73 @@ within feed bytes number fields place others rest o cut =
 positive : (bytes : List ℕ) (source : SourceValue) (number : ℕ) (fields : List FieldBytesValue) (place : List ℕ) (others : List (List ℕ)) (rest : List ℕ) → IsCutBehind bytes source number fields place others rest → 0 < number
 positive bytes source number fields place others rest cut =
     let last = cut.cut.last in omega (arith, cut.many, ap length last.groups, length-append last.before (last.last ∷ []))
+
+-- ---- tables whose FIELDs are in force
+
+-- a FIELD is of a table of the plan
+abbrev IsKnown : PlanValue → EventValue → Type 0
+IsKnown plan (Field name columns) = is_none (table_of_name plan (table_in_source (source_of plan) name)) ≡ false
+IsKnown plan event = Unit {0}
+
+known_name : (plan : PlanValue) (events : PastEvents) (name : List ℕ) (columns : List FieldValue) → AllByRecursion (IsKnown plan) events → last_field (source_of plan) events name ≡ Some columns → is_none (table_of_name plan name) ≡ false
+known_name plan [] name columns h e = absurd (none-some columns e)
+known_name plan (Field other c ∷ events) name columns h e =
+    let mine : List ℕ = table_in_source (source_of plan) other in
+    elim (cases_Bool (bytes_eq mine name)) [
+      | inl same ↦ subst (λ (n : List ℕ). is_none (table_of_name plan n) ≡ false) (same_text mine name (sym same)) h.0
+      | inr apart ↦ known_name plan events name columns h.1 (sym (cond-false (bytes_eq mine name) (Some c) (last_field (source_of plan) events name) apart) ∙ e)
+    ]
+known_name plan (event ∷ events) name columns h e = known_name plan events name columns h.1 e
+
+known_events : (plan : PlanValue) (fields : List FieldBytesValue) (events : List EventValue) → AllByRecursion IsNamed fields → AllByRecursion (IsOfPlan plan) fields
+    → map (λ (field : FieldBytesValue). event_at field.bytes) fields ≡ map good events → AllByRecursion (IsKnown plan) events
+known_events plan [] [] n h e = tt
+known_events plan [] (event ∷ events) n h e = cc
+known_events plan (field ∷ fields) [] n h e = cc
+known_events plan (field ∷ fields) (event ∷ events) n h e =
+    let here : event_at field.bytes ≡ good event = cc in
+    let others : map (λ (f : FieldBytesValue). event_at f.bytes) fields ≡ map good events = cc in
+    let is : Field field.name n.0.0 ≡ event = same_good (Field field.name n.0.0) event (sym n.0.1 ∙ here) in
+    (subst (IsKnown plan) is h.0, known_events plan fields events n.1 h.1 others)
+
+none_unknown : (plan : PlanValue) (past : PastEvents) (changes : List TableChangeValue) → ((name : List ℕ) (columns : List FieldValue) → last_field (source_of plan) past name ≡ Some columns → is_none (table_of_name plan name) ≡ false)
+    → AllByRecursion (λ (change : TableChangeValue). HasColumns (source_of plan) past change.table) changes → list_any (is_unknown plan) changes ≡ false
+none_unknown plan past [] known h = refl
+none_unknown plan past (change ∷ changes) known h =
+    ap (λ (b : Bool). b || list_any (is_unknown plan) changes) (known change.table h.0.0 h.0.1) ∙ none_unknown plan past changes known h.1
+
+none_have : (plan : PlanValue) (past : PastEvents) (all : List GroupValue) → ((name : List ℕ) (columns : List FieldValue) → last_field (source_of plan) past name ≡ Some columns → is_none (table_of_name plan name) ≡ false)
+    → AllByRecursion (λ (group : GroupValue). AllByRecursion (λ (change : TableChangeValue). HasColumns (source_of plan) past change.table) group.changes) all → have_unknown plan all ≡ false
+none_have plan past [] known h = refl
+none_have plan past (group ∷ all) known h =
+    ap (λ (b : Bool). b || have_unknown plan all) (none_unknown plan past group.changes known h.0) ∙ none_have plan past all known h.1
+
+-- where all FIELDs in force are of tables of the plan no change before them is of another
+none_lost : ChangesHaveColumns → (plan : PlanValue) (bytes : List ℕ) (number : ℕ) (fields : List FieldBytesValue) (place : List ℕ) (others : List (List ℕ)) (rest : List ℕ) (all : List GroupValue)
+    → AllByRecursion (IsOfPlan plan) fields → groups bytes (source_of plan) ≡ Ok all → IsCutBehind bytes (source_of plan) number fields place others rest → have_unknown plan (take number all) ≡ false
+none_lost law plan bytes number fields place others rest all known are cut =
+    let source : SourceValue = source_of plan in
+    let past : PastEvents = reverse cut.front in
+    let behind : List EventValue = cut.behind ++ cut.later in
+    let events : List EventValue = (events_of_feed bytes).items in
+    let w : Ended source (reverse events) all = ended source events all (to_end bytes source all are) in
+    let parts : events ≡ cut.front ++ behind = ap (λ r. r.items) cut.events.are in
+    let split : reverse events ≡ reverse behind ++ past = ap reverse parts ∙ reverse-append cut.front behind in
+    let old : Ended source (reverse behind ++ past) all = subst (λ (p : PastEvents). Ended source p all) split w in
+    let more = groups_behind source (reverse behind) past in
+    let same : all ≡ groups_of source past ++ more.0 = sym old.are ∙ more.1 in
+    let first : take number all ≡ groups_of source past = ap (take number) same ∙ take_at (groups_of source past) more.0 number cut.many in
+    let have : HaveColumns source past = law source past (front_faultless source (reverse behind) past old.faultless) in
+    let force : PastEvents = in_force source past in
+    let events_known : AllByRecursion (IsKnown plan) force =
+    subst (λ (es : PastEvents). AllByRecursion (IsKnown plan) es) (reverse-reverse force) (all-reverse (IsKnown plan) (reverse force) (known_events plan fields (reverse force) cut.in_force.named known cut.in_force.events)) in
+    ap (have_unknown plan) first
+    ∙ none_have plan past (groups_of source past) (λ name columns said. known_name plan force name columns events_known ((say_the_columns source past).columns name ∙ said)) have
+
+pub none_loses : ChangesHaveColumns → (plan : PlanValue) (bytes : List ℕ) (number : ℕ) (fields : List FieldBytesValue) (unknown : UnknownTables) → AllByRecursion (IsOfPlan plan) fields
+    → (all : List GroupValue) (place : List ℕ) (others : List (List ℕ)) (rest : List ℕ) → groups bytes (source_of plan) ≡ Ok all → IsCutBehind bytes (source_of plan) number fields place others rest → false ≡ loses plan unknown (take number all)
+none_loses law plan bytes number fields Refused known all place others rest are cut = sym (none_lost law plan bytes number fields place others rest all known are cut)
+none_loses law plan bytes number fields LeftOut known all place others rest are cut = refl
 
 -- a cut that is found and loses nothing
 pub cuts : (feed : FeedValue) (bytes : List ℕ) (unknown : UnknownTables) (number : ℕ) (fields : List FieldBytesValue) (place : List ℕ) (others : List (List ℕ)) (rest : List ℕ) (lost : Bool)
@@ -141,15 +220,6 @@ pub skip_none : (plan : PlanValue) (n : ℕ) (group : GroupValue) (later : List 
 skip_none plan n group later some none = ap (have_unknown plan) (take_next n group later some) ∙ ap (λ (b : Bool). b || have_unknown plan (take (n - 1) later)) none
 
 -- ---- names
-
-abbrev Read : Type 0
-Read = Result EventValue EventFault
-
-abbrev good : EventValue → Read
-good event = Ok event
-
-same_good : (a b : EventValue) → good a ≡ good b → a ≡ b
-same_good a b e = cc
 
 -- no FIELD of this table
 abbrev IsOther : PlanValue → ℕ → EventValue → Type 0

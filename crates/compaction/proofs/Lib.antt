@@ -1,4 +1,5 @@
 mod LeftLaws
+mod SizedLaws
 mod WritingLaws
 mod CutLaws
 mod CompactLaws

@@ -19,8 +19,10 @@ use Rattle.event_laws.specs.WrittenMessages.{written_response, framed, written_m
 use Rattle.feed_bytes.specs.FieldBytes.{FieldBytesValue}
 use Rattle.feed_bytes.specs.Inserts.{insert_change, inserts}
 use Rattle.compaction_laws.specs.Portions.{Portion, event_of, rows_of, IsOfOneTable}
+use Rattle.compaction.specs.Compacting.{others_message}
+use Rattle.compaction.specs.Private.Sized.{inserts_message, joined}
 use Rattle.compaction.specs.Private.LeftEntries.{Entries, rows_of as entry_rows}
-use Rattle.compaction.specs.Private.Written.{AddsEvents, HasName, AreNamed, WaitingValue, CanBePut, IsPortionPut, IsPut, IsReady, AddsRows, AddsFields, AddsEnd, AddsBase}
+use Rattle.compaction.specs.Private.Written.{AddsEvents, HasName, AreNamed, WaitingValue, CanBePut, IsPortionPut, IsPut, IsReady, AddsRows, AddsFields, AddsEnd, AddsBase, IsWrittenOver}
 use Rattle.std.specs.Str.{is_utf8}
 
 -- ---- messages
@@ -46,6 +48,10 @@ adds_more a b c xs ys one two = record {
       ∙ sym (map-append good xs ys);
 }
 
+-- behind other bytes
+adds_behind : (old added : List ℕ) (events : List EventValue) → AddsEvents [] added events → AddsEvents old (old ++ added) events
+adds_behind old added events adds = record { messages = adds.messages; bytes = ap (λ (w : List ℕ). old ++ w) adds.bytes; read = adds.read }
+
 -- one message
 pub adds_one : (old new : List ℕ) (parts : List (List ℕ)) (events : List EventValue) → new ≡ old ++ framed (written_response parts) → map event_at parts ≡ map Ok events → AddsEvents old new events
 adds_one old new parts events is read = record {
@@ -68,12 +74,13 @@ event_short old new event is short =
     let frame : length (framed response) ≡ length (shortest (length response)) + length response = length-append (shortest (length response)) response in
     (messages_short 1 (event ∷ []) (omega (arith, short, whole, frame))).0
 
-pub adds_portion : EventsAreReadAgain → (old new name : List ℕ) (rows : List RowValue) → is_utf8 name ≡ true → AllByRecursion IsWithinLimits rows → length new < 2 ^ 64
-    → new ≡ old ++ framed (written_response (written_event (inserts name rows) ∷ [])) → AddsEvents old new (inserts name rows ∷ [])
-adds_portion again old new name rows utf8 limits short is =
+-- a message of rows behind others
+pub adds_portion : EventsAreReadAgain → (old new portion name : List ℕ) (rows : List RowValue) → is_utf8 name ≡ true → AllByRecursion IsWithinLimits rows → length portion < 2 ^ 64 → portion ≡ inserts_message name rows → new ≡ old ++ portion
+    → AddsEvents old new (inserts name rows ∷ [])
+adds_portion again old new portion name rows utf8 limits short is put =
     let event : EventValue = inserts name rows in
-    let read : event_at (written_event event) ≡ Ok event = again event (utf8, all_limits rows limits) (event_short old new (written_event event) is short) in
-    adds_one old new (written_event event ∷ []) (event ∷ []) is (ap (λ (r : Read). r ∷ []) read)
+    let read : event_at (written_event event) ≡ Ok event = again event (utf8, all_limits rows limits) (event_short [] portion (written_event event) is short) in
+    adds_one old new (written_event event ∷ []) (event ∷ []) (put ∙ ap (λ (w : List ℕ). old ++ w) is) (ap (λ (r : Read). r ∷ []) read)
 
 -- ---- rows that wait
 
@@ -230,7 +237,7 @@ adds_fields old new bytes fields begin is are read events e = adds_one old new b
 pub adds_end : (old new : List ℕ) (place commit : List ℕ) → new ≡ old ++ framed (written_response (place ∷ commit ∷ [])) → event_at commit ≡ Ok Commit → AddsEnd old new place
 adds_end old new place commit is read event e = adds_one old new (place ∷ commit ∷ []) (event ∷ Commit ∷ []) is (ap (λ (r : Read). r ∷ event_at commit ∷ []) e ∙ ap (λ (r : Read). good event ∷ r ∷ []) read)
 
-pub adds_base : (plan : PlanValue) (old one two new : List ℕ) (fields : List FieldBytesValue) (rows : ImageRows) (place : List ℕ) → AddsFields old one fields → AddsRows plan one two rows → AddsEnd two new place
+adds_base : (plan : PlanValue) (old one two new : List ℕ) (fields : List FieldBytesValue) (rows : ImageRows) (place : List ℕ) → AddsFields old one fields → AddsRows plan one two rows → AddsEnd two new place
     → AddsBase plan old new fields rows place
 adds_base plan old one two new fields rows place head middle end events event e p =
     let inserted : List EventValue = map event_of middle.portions in
@@ -242,4 +249,26 @@ adds_base plan old one two new fields rows place head middle end events event e 
       are = middle.are;
       adds = subst (λ (all : List EventValue). AddsEvents old new all)
           (append_assoc (events ++ Begin ∷ []) inserted (event ∷ Commit ∷ []) ∙ append_assoc events (Begin ∷ []) (inserted ++ event ∷ Commit ∷ [])) all;
+    }
+
+-- the pieces of a feed one after another
+pub is_written_over : (plan : PlanValue) (fields : List FieldBytesValue) (rows : ImageRows) (place : List ℕ) (others : List (List ℕ)) (rest head end tail : List ℕ) (portions : List (List ℕ)) (new : List ℕ) → AddsFields [] head fields
+    → AddsRows plan [] (joined portions) rows → AddsEnd [] end place → tail ≡ end ++ others_message others → new ≡ head ++ (joined portions ++ (tail ++ rest)) → length new < 2 ^ 31 → IsWrittenOver plan fields rows place others rest new
+is_written_over plan fields rows place others rest head end tail portions new first middle last tail_is is short =
+    let messages : List ℕ = joined portions in
+    let base : List ℕ = (head ++ messages) ++ end in
+    let behind : List ℕ = others_message others ++ rest in
+    let second : AddsRows plan head (head ++ messages) rows = record {
+      portions = middle.portions;
+      each_portion = middle.each_portion;
+      are = middle.are;
+      adds = adds_behind head messages (map event_of middle.portions) middle.adds;
+    } in
+    let third : AddsEnd (head ++ messages) base place = λ event e. adds_behind (head ++ messages) end (event ∷ Commit ∷ []) (last event e) in
+    record {
+      base = base;
+      adds = adds_base plan [] head (head ++ messages) base fields rows place first second third;
+      parts = is ∙ ap (λ (w : List ℕ). head ++ (messages ++ (w ++ rest))) tail_is ∙ ap (λ (w : List ℕ). head ++ (messages ++ w)) (append_assoc end (others_message others) rest)
+          ∙ sym (append_assoc (head ++ messages) end behind ∙ append_assoc head messages (end ++ behind));
+      short = short;
     }

@@ -1,3 +1,4 @@
 -- What serves the code alone, and no public contract.
 pub mod LeftEntries
+pub mod Sized
 pub mod Written

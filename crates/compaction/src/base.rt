@@ -1,20 +1,29 @@
 //! The messages of a base.
 
-ghost use Rattle.std.specs.Prelude.{◌≡◌, ◌++◌, ◌∷◌, [], IfOk, OnOk, Ok, map};
+ghost use Rattle.std.specs.Prelude.{◌≡◌, ◌++◌, ◌∷◌, ◌<◌, ◌^◌, [], IfOk, OnOk, Ok, length, map};
 ghost use Rattle.vevent.specs.Event.{event_at};
 ghost use Rattle.vevent.specs.EventView.{event_value};
 ghost use Rattle.vevent.specs.WrittenEvent.{IsSoundEvent};
 ghost use Rattle.compaction.specs.Compacting.{others_message};
-ghost use Rattle.compaction.specs.Private.Written.{AddsBase, AddsEnd, AddsFields, AddsRows, AreNamed};
+ghost use Rattle.compaction.specs.Private.Sized.{joined};
+ghost use Rattle.compaction.specs.Private.Written.{AddsEnd, AddsFields, AddsRows, AreNamed};
 
 use crate::fault::WriteFault;
 use crate::left_rows::LeftRows;
-use crate::waiting::{Waiting, is_short};
+use crate::portion::Portion;
+use crate::waiting::Waiting;
 use feed_bytes::{FieldBytes, write_message};
 use filter_rule::Plan;
 use proto_wire::Parts;
 use std::alloc::{AllocError, Global};
 use vevent::{Event, write_event};
+
+/// A law of what is in memory: it has no more bytes than 64 bits count.
+fn is_short(out: &Vec<u8>)
+    ensures { length out.now.items < 2 ^ 64 }
+{
+    out.len();
+}
 
 /// An event as bytes that are read as this event. An error is want of memory.
 fn bytes_of(alloc: Global, event: &Event<'_>) -> Result<Vec<u8>, AllocError>
@@ -44,7 +53,7 @@ fn with_fields<'f>(
 }
 
 /// Appends the message of the FIELDs in force and a BEGIN.
-fn write_fields(
+pub(crate) fn write_fields(
     alloc: Global,
     out: &mut Vec<u8>,
     fields: &[FieldBytes<'_>],
@@ -57,52 +66,33 @@ fn write_fields(
     Ok(())
 }
 
-/// Appends the messages of ROWs that insert rows.
-fn write_rows<'h>(
+/// Puts the messages of ROWs that insert rows behind others.
+pub(crate) fn push_rows<'h>(
     alloc: Global,
-    out: &mut Vec<u8>,
+    portions: &mut Vec<Portion<'h>>,
     plan: &Plan,
     fields: &[FieldBytes<'h>],
     rows: &LeftRows<'h>,
 ) -> Result<(), WriteFault>
     requires { AreNamed plan.now fields.now rows.now }
-    ensures { OnOk result (AddsRows plan.now out.old.items out.new.items rows.now) }
+    ensures { OnOk result (AddsRows plan.now (joined portions.old.items) (joined portions.new.items) rows.now) }
 {
     let mut waiting = Waiting::new(alloc);
     for (key, _, row) in rows.scan() {
         let table = key.table();
-        waiting.make_room(table, out, plan, fields)?;
+        waiting.make_room(alloc, table, portions, plan, fields)?;
         waiting.push(table, row)?;
     }
-    waiting.flush(out, plan, fields)?;
+    waiting.flush(alloc, portions, plan, fields)?;
     Ok(())
 }
 
 /// Appends the message of an event that carries a position, and a COMMIT.
-fn write_end(alloc: Global, out: &mut Vec<u8>, place: &[u8]) -> Result<(), AllocError>
+pub(crate) fn write_end(alloc: Global, out: &mut Vec<u8>, place: &[u8]) -> Result<(), AllocError>
     ensures { OnOk result (AddsEnd out.old.items out.new.items place.now) }
 {
     let commit = bytes_of(alloc, &Event::Commit)?;
     write_message(out, &[place, &commit])?;
-    Ok(())
-}
-
-/// Appends the messages of a base: the FIELDs in force, and one transaction that inserts the rows and has the position
-/// that the event at `place` carries.
-pub(crate) fn write_base<'h>(
-    alloc: Global,
-    out: &mut Vec<u8>,
-    plan: &Plan,
-    fields: &[FieldBytes<'h>],
-    rows: &LeftRows<'h>,
-    place: &[u8],
-) -> Result<(), WriteFault>
-    requires { AreNamed plan.now fields.now rows.now }
-    ensures { OnOk result (AddsBase plan.now out.old.items out.new.items fields.now rows.now place.now) }
-{
-    write_fields(alloc, out, fields)?;
-    write_rows(alloc, out, plan, fields, rows)?;
-    write_end(alloc, out, place)?;
     Ok(())
 }
 

@@ -1,15 +1,18 @@
 //! Where a feed is cut, and what would be lost there.
 
-ghost use Rattle.std.specs.Prelude.{◌≡◌, List, take, IfErr, IfOk, Ok};
-ghost use Rattle.std.specs.List.{list_any};
+ghost use Rattle.std.specs.Prelude.{◌≡◌, ℕ, List, take, IfErr, IfOk, IsTrue, Ok};
+ghost use Rattle.std.specs.List.{AllByRecursion, list_any};
 ghost use Rattle.source_feed.specs.GroupValue.{GroupValue};
 ghost use Rattle.source_feed.specs.Groups.{groups};
 ghost use Rattle.source_feed.specs.Planned.{groups_under, source_of};
+ghost use Rattle.feed_bytes.specs.Cut.{IsCutBehind};
+ghost use Rattle.compaction.specs.Private.Written.{IsOfPlan};
 ghost use Rattle.compaction.specs.Compacting.{CutsFeed, IsCause, have_unknown, is_unknown, loses};
 ghost use Rattle.compaction.specs.declared.fault.CompactFault.TheVariants.{Memory};
 
 use crate::fault::CompactFault;
-use feed_bytes::{Cut, Source, cut_behind};
+use event_laws::changes_have_columns;
+use feed_bytes::{Cut, FieldBytes, Source, cut_behind};
 use filter_rule::Plan;
 use pace::{Meter, Portions};
 use source_feed::{Feed, Group, Groups, read_groups};
@@ -65,26 +68,63 @@ fn have_unknown<M: Meter>(plan: &Plan, groups: &Groups<'_>, number: u32, meter: 
     false
 }
 
-/// Changes of the feed's groups up to the one of a number would be lost that aren't to be left out. An error is want of
-/// memory: the bytes open as a feed.
+/// Every FIELD is of a table of the plan.
+fn are_known(plan: &Plan, fields: &[FieldBytes<'_>]) -> bool
+    ensures { IsTrue result → AllByRecursion (IsOfPlan plan.now) fields.now }
+{
+    let source = Source::new(plan.keyspace(), plan.shard());
+    for field in fields {
+        if plan.table(source.table(field.name())).is_none() {
+            return false;
+        }
+    }
+    true
+}
+
+/// Changes of the feed's groups up to the one of a number would be lost that aren't to be left out; the FIELDs are those in
+/// force behind it. An error is want of memory: the bytes open as a feed.
+///
+/// Looks the groups through only where a FIELD is of a table that the plan lacks, since no change is without one.
 fn would_lose<M: Meter>(
     alloc: Global,
     bytes: &[u8],
     feed: &Feed<'_>,
     number: u32,
     unknown: UnknownTables,
+    fields: &[FieldBytes<'_>],
     meter: &M,
 ) -> Result<bool, CompactFault>
-    ensures lost { IfOk result (λ lost. (all : List GroupValue) → groups bytes.now (source_of feed.now.plan) ≡ Ok all → lost ≡ loses feed.now.plan unknown (take number all)) }
+    ensures lost { IfOk result (λ lost. (all : List GroupValue) (place : List ℕ) (others : List (List ℕ)) (rest : List ℕ) → groups bytes.now (source_of feed.now.plan) ≡ Ok all
+        → IsCutBehind bytes.now (source_of feed.now.plan) number fields.now place others rest → lost ≡ loses feed.now.plan unknown (take number all)) }
     ensures memory { IfErr result (λ fault. fault ≡ Memory) }
 {
     if unknown == UnknownTables::LeftOut {
         return Ok(false);
     }
+    changes_have_columns();
     let plan = feed.plan();
+    if are_known(plan, fields) {
+        return Ok(false);
+    }
     match read_groups(alloc, bytes, plan.keyspace(), plan.shard()) {
         Ok(groups) => Ok(have_unknown(plan, &groups, number, meter)),
         Err(_) => Err(CompactFault::Memory),
+    }
+}
+
+/// How many parts it has to compact so many groups: each is prepared, and before that looked through where changes could be
+/// lost.
+fn parts_of(
+    number: u32,
+    unknown: UnknownTables,
+    feed: &Feed<'_>,
+    fields: &[FieldBytes<'_>],
+) -> usize {
+    let groups = number as usize;
+    if unknown == UnknownTables::LeftOut || are_known(feed.plan(), fields) {
+        groups
+    } else {
+        groups.saturating_mul(2)
     }
 }
 
@@ -108,7 +148,8 @@ pub(crate) fn cut<'h, M: Meter>(
     let Some(cut) = cut_behind(alloc, bytes, &source, number)? else {
         return Err(CompactFault::NoCut);
     };
-    if would_lose(alloc, bytes, feed, number, unknown, meter)? {
+    meter.begins(parts_of(number, unknown, feed, &cut.fields));
+    if would_lose(alloc, bytes, feed, number, unknown, &cut.fields, meter)? {
         return Err(CompactFault::UnknownTable);
     }
     Ok(cut)

@@ -1,18 +1,21 @@
 //! Rows that wait to be written as one portion.
 
-ghost use Rattle.std.specs.Prelude.{◌≡◌, ◌↔◌, ◌<◌, ◌^◌, length, ◌++◌, [], ◌∷◌, IsTrue, IfSome, IfNone, IfOk, OnOk, Ok};
-ghost use Rattle.row_view.specs.WrittenRow.{IsWithinLimits};
-ghost use Rattle.std.specs.List.{AllByRecursion};
+ghost use Rattle.std.specs.Prelude.{◌≡◌, ◌↔◌, length, ◌++◌, [], ◌∷◌, IsTrue, IfSome, IfNone, OnOk};
 ghost use Rattle.source_feed.specs.Planned.{source_of};
 ghost use Rattle.feed_bytes.specs.Inserts.{inserts};
-ghost use Rattle.compaction.specs.Private.Written.{AddsEvents, AreOfOthers, CanBePut, IsNameOf, IsPut, IsReady};
+ghost use Rattle.compaction.specs.Private.Sized.{change_fields, joined};
+ghost use Rattle.compaction.specs.Private.Written.{AddsEvents, AreOfOthers, AreWaiting, CanBePut, IsNameOf, IsPut, IsReady};
 
 use crate::fault::WriteFault;
-use feed_bytes::{FieldBytes, Source, write_inserts};
+use crate::portion::{Portion, is_counted};
+use crate::sized_row::{SizedRow, change_size};
+use feed_bytes::{FieldBytes, Source};
 use filter_rule::Plan;
-use row_view::{ROW_BYTES, RowBytes, row_size};
+use proto_wire::size_of_both;
+use row_view::RowBytes;
 use std::alloc::Global;
 use std::marker::Model;
+use std::mem;
 use vevent::events_are_read_again;
 
 /// The most rows of a portion.
@@ -25,21 +28,21 @@ const BYTES: usize = 1_048_576;
 #[derive(Drop)]
 pub(crate) struct Waiting<'h> {
     table: u8,
-    rows: Vec<RowBytes<'h>>,
+    rows: Vec<SizedRow<'h>>,
     /// how many bytes the rows have as they are written
     bytes: usize,
+    /// how many bytes the changes have that insert them, as fields of their event
+    changes: usize,
 }
 
 impl<'h> Model for Waiting<'h> {
-    ghost use Rattle.std.specs.List.{AllByRecursion};
-    ghost use Rattle.row_view.specs.WrittenRow.{IsWithinLimits};
-    ghost use Rattle.compaction.specs.Private.Written.{WaitingValue};
+    ghost use Rattle.compaction.specs.Private.Written.{WaitingValue, AreWaiting};
 
     ghost Value = { WaitingValue };
 
     ghost view = { λ w. record { table = w.table; rows = w.rows.items } };
 
-    ghost invariant = { λ w. AllByRecursion IsWithinLimits w.rows.items };
+    ghost invariant = { λ w. AreWaiting w.rows.items w.changes };
 }
 
 /// The name that a feed has of a planned table, by the FIELDs that are in force.
@@ -68,21 +71,21 @@ fn is_name_of(plan: &Plan, source: &Source<'_>, table: u8, name: &str) -> bool
     }
 }
 
-/// A law of what is in memory: it has no more bytes than 64 bits count.
-pub(crate) fn is_short(out: &Vec<u8>)
-    ensures { length out.now.items < 2 ^ 64 }
-{
-    out.len();
-}
-
-/// Writes rows as the message of one ROW that inserts them into the table of this name.
-fn write_portion(out: &mut Vec<u8>, name: &str, rows: &[RowBytes<'_>]) -> Result<(), WriteFault>
-    requires { AllByRecursion IsWithinLimits rows.now }
-    ensures { OnOk result (AddsEvents out.old.items out.new.items (inserts name.now rows.now ∷ [])) }
+/// Puts the message that inserts rows into the table of this name behind others.
+fn push_portion<'h>(
+    alloc: Global,
+    portions: &mut Vec<Portion<'h>>,
+    name: &str,
+    rows: Vec<SizedRow<'h>>,
+    changes: usize,
+) -> Result<(), WriteFault>
+    requires { AreWaiting rows.items changes }
+    ensures { OnOk result (AddsEvents (joined portions.old.items) (joined portions.new.items) (inserts name.now rows.entry.items ∷ [])) }
 {
     events_are_read_again();
-    write_inserts(out, name, rows)?;
-    is_short(out);
+    let portion = Portion::new(alloc, name, rows, changes)?;
+    is_counted(&portion);
+    portions.push(portion)?;
     Ok(())
 }
 
@@ -95,75 +98,64 @@ impl<'h> Waiting<'h> {
             table: 0,
             rows: Vec::new(alloc),
             bytes: 0,
+            changes: 0,
         }
     }
 
-    /// Writes what waits, if something does.
-    fn write(
-        &self,
-        out: &mut Vec<u8>,
+    /// Puts what waits behind the portions, if something does; then nothing waits.
+    pub(crate) fn flush(
+        &mut self,
+        alloc: Global,
+        portions: &mut Vec<Portion<'h>>,
         plan: &Plan,
         fields: &[FieldBytes<'h>],
     ) -> Result<(), WriteFault>
-        requires { CanBePut plan.now fields.now self.now }
-        ensures { OnOk result (IsPut plan.now self.now out.old.items out.new.items) }
+        requires { CanBePut plan.now fields.now self.old }
+        ensures put { OnOk result (IsPut plan.now self.old (joined portions.old.items) (joined portions.new.items)) }
+        ensures emptied { OnOk result (self.new.rows ≡ []) }
     {
         if self.rows.is_empty() {
             return Ok(());
         }
-        match name_of(plan, fields, self.table) {
-            Some(name) => write_portion(out, name, &self.rows),
-            None => unreachable!(),
-        }
-    }
-
-    /// Writes what waits, if something does; then nothing waits.
-    pub(crate) fn flush(
-        &mut self,
-        out: &mut Vec<u8>,
-        plan: &Plan,
-        fields: &[FieldBytes<'h>],
-    ) -> Result<(), WriteFault>
-        requires { CanBePut plan.now fields.now self.old }
-        ensures put { OnOk result (IsPut plan.now self.old out.old.items out.new.items) }
-        ensures emptied { OnOk result (self.new.rows ≡ []) }
-    {
-        self.write(out, plan, fields)?;
-        self.rows.clear();
+        let Some(name) = name_of(plan, fields, self.table) else {
+            unreachable!()
+        };
+        let changes = self.changes;
+        let rows = mem::replace(&mut self.rows, Vec::new(alloc));
         self.bytes = 0;
-        Ok(())
+        self.changes = 0;
+        push_portion(alloc, portions, name, rows, changes)
     }
 
-    /// Makes room for a row of a table: what waits is written, unless it is of this table and has room.
+    /// Makes room for a row of a table: what waits is put behind the portions, unless it is of this table and has room.
     pub(crate) fn make_room(
         &mut self,
+        alloc: Global,
         table: u8,
-        out: &mut Vec<u8>,
+        portions: &mut Vec<Portion<'h>>,
         plan: &Plan,
         fields: &[FieldBytes<'h>],
     ) -> Result<(), WriteFault>
         requires { CanBePut plan.now fields.now self.old }
-        ensures { OnOk result (IsReady plan.now table self.old out.old.items self.new out.new.items) }
+        ensures { OnOk result (IsReady plan.now table self.old (joined portions.old.items) self.new (joined portions.new.items)) }
     {
         if self.table == table && self.rows.len() < ROWS && self.bytes < BYTES {
             return Ok(());
         }
-        self.flush(out, plan, fields)
+        self.flush(alloc, portions, plan, fields)
     }
 
     /// Lets a row of a table wait behind the others, which are of this table.
     pub(crate) fn push(&mut self, table: u8, row: &RowBytes<'h>) -> Result<(), WriteFault>
         ensures { OnOk result (self.new ≡ record { table = table; rows = self.old.rows ++ row.now ∷ [] }) }
     {
-        let view = row.view();
-        view.len();
-        let size = row_size(&view)?;
-        if size > ROW_BYTES {
-            return Err(WriteFault::TooLong);
-        }
-        self.rows.push(row.copy())?;
+        let row = SizedRow::of(row)?;
+        let size = row.size();
+        let changes = size_of_both(self.changes, change_size(&row))?;
+        self.rows.push(row)?;
         self.table = table;
         self.bytes = self.bytes.saturating_add(size);
+        self.changes = changes;
         Ok(())
     }
 }

@@ -8,4 +8,4 @@ mod rights;
 mod stamp;
 
 pub use fault::{KeepFault, PlaceFault};
-pub use place::Place;
+pub use place::{Draft, Place};

@@ -3,7 +3,7 @@
 use crate::fault::KeepFault;
 use crate::rights::Rights;
 use std::fs::{File, OpenOptions};
-use std::io::{ErrorKind, Write};
+use std::io::ErrorKind;
 use std::os::unix::fs::OpenOptionsExt;
 use std::path::Path;
 use std::rt::HostRuntime;
@@ -56,10 +56,13 @@ impl NewFile {
         self.name.as_str()
     }
 
-    /// Writes these bytes, gives the file its rights, and waits until all of it is on the disk.
-    pub(crate) fn write(&self, bytes: &[u8]) -> io::Result<()> {
-        let mut file = &self.file;
-        file.write_all(bytes)?;
+    /// The file, which is open to be written.
+    pub(crate) fn file(&self) -> &File {
+        &self.file
+    }
+
+    /// Gives the file its rights, and waits until all of it is on the disk.
+    pub(crate) fn finish(&self) -> io::Result<()> {
         if let Some(rights) = &self.rights {
             rights.give(&self.file)?;
         }

@@ -5,7 +5,7 @@ use crate::new_file::NewFile;
 use crate::rights::Rights;
 use crate::stamp::Stamp;
 use std::fs::{File, Metadata};
-use std::io::ErrorKind;
+use std::io::{ErrorKind, Write};
 use std::path::Path;
 use std::rt::HostRuntime;
 use std::{fs, io};
@@ -22,6 +22,26 @@ struct Found {
 pub struct Place {
     file: String,
     found: Option<Found>,
+}
+
+/// A file that is written beside a place, to be put there.
+#[derive(Drop)]
+pub struct Draft {
+    new: NewFile,
+    /// the place's folder
+    folder: File,
+}
+
+impl Draft {
+    /// The file, to be written from its front.
+    pub fn file(&self) -> &File {
+        self.new.file()
+    }
+
+    /// Takes it away again.
+    pub fn remove(self, rt: &HostRuntime) {
+        self.new.remove(rt);
+    }
 }
 
 impl Place {
@@ -87,16 +107,34 @@ impl Place {
     /// After a refusal the file is as it was, or as another call left it, and nothing stays beside it; but where the
     /// folder couldn't be brought onto the disk (`CannotWrite`) it can be either.
     pub fn replace(&self, rt: &HostRuntime, bytes: &[u8]) -> Result<(), KeepFault> {
+        let draft = self.begin(rt)?;
+        let mut file = draft.file();
+        match file.write_all(bytes) {
+            Ok(()) => self.end(rt, draft),
+            Err(_) => {
+                draft.remove(rt);
+                Err(KeepFault::CannotWrite)
+            }
+        }
+    }
+
+    /// A file of its own beside the place, to be written by the caller, who then ends it by `end` or takes it away by
+    /// `Draft::remove`.
+    pub fn begin(&self, rt: &HostRuntime) -> Result<Draft, KeepFault> {
         let folder = open_folder(rt, self.file.as_str())?;
         let rights = self.found.as_ref().map(|found| found.rights);
         let new = NewFile::create(rt, self.file.as_str(), rights)?;
-        match new.write(bytes) {
-            Ok(()) => self.put(rt, new)?,
-            Err(_) => {
-                new.remove(rt);
-                return Err(KeepFault::CannotWrite);
-            }
+        Ok(Draft { new, folder })
+    }
+
+    /// Puts a draft that was begun for this place and is written whole in the place, as `replace` puts its file.
+    pub fn end(&self, rt: &HostRuntime, draft: Draft) -> Result<(), KeepFault> {
+        let Draft { new, folder } = draft;
+        if new.finish().is_err() {
+            new.remove(rt);
+            return Err(KeepFault::CannotWrite);
         }
+        self.put(rt, new)?;
         folder.sync_all().map_err(|_| KeepFault::CannotWrite)
     }
 

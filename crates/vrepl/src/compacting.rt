@@ -2,15 +2,19 @@
 
 ghost use Rattle.std.specs.Prelude.{◌≡◌, ◌≤◌, ◌∷◌, map, IfErr, IfOk};
 ghost use Rattle.vrepl.specs.Asked.{IsCompactAsked, unknown_asked};
+ghost use Rattle.vrepl.specs.Kept.{IsUnkept};
 ghost use Rattle.vrepl_main.specs.Inputs.{IsUnreadAmong};
 ghost use Rattle.vrepl_main.specs.declared.input.InputName.TheVariants.{File};
 
-use crate::keeping::{Keeping, keep, misnamed, place_of};
+use crate::keeping::{Keeping, misnamed, place_of, unkept};
 use crate::telling::Teller;
-use compaction::UnknownTables;
+use compaction::{CompactedFeed, UnknownTables};
+use kept_file::{KeepFault, Place};
 use std::alloc::{AllocError, Global};
 use vdiff_core::{Writer, put_all};
-use vrepl_compact::{CompactInputs, NewFeed, compacted, refuse_uncompacted};
+use vrepl_compact::{
+    CompactInputs, NewFeed, PlannedInputs, Uncompacted, compacted, planned, refuse_uncompacted,
+};
 use vrepl_main::{CommandRefusal, read_inputs, run_inputs};
 use vrepl_words::words::Compact;
 
@@ -89,16 +93,65 @@ pub(crate) fn compact_to<'w>(
     }
     let inputs = read_compact(rt, teller, words)?;
     teller.has_all();
-    match compacted(rt.alloc(), &inputs, teller) {
+    match planned(rt.alloc(), &inputs) {
+        Ok(planned) => compact_planned(rt, teller, &inputs, &planned, &place, file),
+        Err(uncompacted) => Ok(refuse_compact(rt, teller, uncompacted)),
+    }
+}
+
+/// The same of inputs whose plans and feed were looked at.
+fn compact_planned<'w>(
+    rt: &HostRuntime,
+    teller: &Teller<'_>,
+    inputs: &CompactInputs<'_>,
+    planned: &PlannedInputs<'_>,
+    place: &Place,
+    file: &'w str,
+) -> Result<u8, CommandRefusal<'w>>
+    ensures status { IfOk result (λ status. status ≤ 2) }
+{
+    match compacted(rt.alloc(), inputs, planned, teller) {
         Ok(NewFeed { made, line }) => {
-            keep(rt, &place, file, &made.feed)?;
+            keep_feed(rt, place, file, &made.feed)?;
             teller.ends();
             put_all(&mut Writer::new(rt.stdout()), line.as_bytes())?;
             Ok(0)
         }
-        Err(uncompacted) => {
-            teller.ends();
-            Ok(refuse_uncompacted(&mut Writer::new(rt.stderr()), uncompacted))
+        Err(uncompacted) => Ok(refuse_compact(rt, teller, uncompacted)),
+    }
+}
+
+/// The status behind the line of a refusal.
+fn refuse_compact(rt: &HostRuntime, teller: &Teller<'_>, uncompacted: Uncompacted) -> u8
+    ensures { result ≤ 2 }
+{
+    teller.ends();
+    refuse_uncompacted(&mut Writer::new(rt.stderr()), uncompacted)
+}
+
+/// Puts a feed in the place of the file of this name.
+fn keep_feed<'w>(
+    rt: &HostRuntime,
+    place: &Place,
+    file: &'w str,
+    feed: &CompactedFeed<'_>,
+) -> Result<(), CommandRefusal<'w>>
+    ensures refused { IfErr result (IsUnkept file.now) }
+{
+    match write_feed(rt, place, feed) {
+        Ok(()) => Ok(()),
+        Err(fault) => Err(unkept(file, fault)),
+    }
+}
+
+/// Writes a feed piece by piece to a file beside a place, and puts it there.
+fn write_feed(rt: &HostRuntime, place: &Place, feed: &CompactedFeed<'_>) -> Result<(), KeepFault> {
+    let draft = place.begin(rt)?;
+    match feed.write(&mut Writer::new(draft.file())) {
+        Ok(()) => place.end(rt, draft),
+        Err(_) => {
+            draft.remove(rt);
+            Err(KeepFault::CannotWrite)
         }
     }
 }

@@ -71,9 +71,18 @@ pub(crate) fn keep<'w>(
 {
     match place.replace(rt, bytes) {
         Ok(()) => Ok(()),
-        Err(KeepFault::Changed) => Err(CommandRefusal::Changed { file }),
-        Err(KeepFault::CannotWrite) => Err(CommandRefusal::CannotWrite { file }),
-        Err(KeepFault::Memory) => Err(CommandRefusal::Memory),
+        Err(fault) => Err(unkept(file, fault)),
+    }
+}
+
+/// Why the file of this name isn't replaced.
+pub(crate) fn unkept(file: &str, fault: KeepFault) -> CommandRefusal<'_>
+    ensures { IsUnkept file.entry.now result }
+{
+    match fault {
+        KeepFault::Changed => CommandRefusal::Changed { file },
+        KeepFault::CannotWrite => CommandRefusal::CannotWrite { file },
+        KeepFault::Memory => CommandRefusal::Memory,
     }
 }
 

@@ -33,9 +33,13 @@ asked_of plans plan bytes = feed_under plan (groups_under bytes plan) >>= λ fee
 abbrev pub asked_as : List PlanValue → Option (List ℕ) → PlanValue → Result AskedFeed Reason
 asked_as plans given plan = bytes_or_none given >>= asked_of plans plan
 
+-- the same under the plan of the stream that is asked for, which is one of these
+abbrev pub asked_in : CompactInputs → List PlanValue → Option (List ℕ) → Result AskedFeed Reason
+asked_in inputs plans given = plan_or_none (slice_get plans inputs.stream) >>= asked_as plans given
+
 -- the feed of the stream that is asked for, under these plans
 abbrev pub asked_under : CompactInputs → List PlanValue → Result AskedFeed Reason
-asked_under inputs plans = plan_or_none (slice_get plans inputs.stream) >>= asked_as plans (feed_bytes inputs.feed_form inputs.feed.items)
+asked_under inputs plans = asked_in inputs plans (feed_bytes inputs.feed_form inputs.feed.items)
 
 -- the feed that is to be compacted. The faults are those of the workflow; then that it has no such stream; then that the feed
 -- should have been hexadecimal text; then the feed's own.

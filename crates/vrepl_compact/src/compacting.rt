@@ -3,29 +3,29 @@
 ghost use Rattle.std.specs.Prelude.{◌≡◌, IfErr, IfOk, Ok, map};
 ghost use Rattle.std.specs.Arc.{arc_value};
 ghost use Rattle.source_feed.specs.Planned.{groups_under};
-ghost use Rattle.vrepl_compact.specs.Asked.{asked_as, asked_of, asked_under, compact_asked};
+ghost use Rattle.vrepl_compact.specs.Asked.{asked_as, asked_in, asked_of, compact_asked};
 ghost use Rattle.vrepl_compact.specs.Compacted.{CompactEnds, IsCompacted, IsPrinted, RefusesCompact};
 ghost use Rattle.vrepl_compact.specs.Private.Faults.{IsOfFeed};
 ghost use Rattle.vrepl_main.specs.Given.{given_value};
 
 use crate::inputs::CompactInputs;
 use crate::limit::last_replaced;
-use crate::opening::{given_feed, open_feed, plan_of, read_plans};
+use crate::opening::{PlannedInputs, open_feed, plan_of, planned};
 use crate::refusal::{Uncompacted, refuse_uncompacted};
-use compaction::{CompactFault, Compaction, compact as compact_feed};
+use compaction::{CompactFault, CompactedFeed, Compaction, compact as compact_feed};
 use filter_rule::Plan;
 use pace::Meter;
 use source_feed::Feed;
 use std::alloc::{AllocError, Global};
 use std::sync::Arc;
-use vdiff_core::{Out, put_all};
+use vdiff_core::Out;
 use vrepl_main::{CommandRefusal, GivenFeed, refuse};
 
 /// A compacted feed, and what is told of it.
 #[derive(Drop)]
-pub struct NewFeed {
+pub struct NewFeed<'h> {
     /// The new feed.
-    pub made: Compaction,
+    pub made: Compaction<'h>,
     /// The line that tells what was done, with its LF.
     pub line: String,
 }
@@ -43,66 +43,70 @@ pub fn compact<M: Meter, W: Out, E: Out>(
     ensures ends { CompactEnds inputs.now result (W.written out.old) (W.written out.new) (E.written err.old) (E.written err.new) }
     ensures quiet { result ≡ 0 → err.new ≡ err.old }
 {
-    match compacted(alloc, inputs, meter) {
+    match planned(alloc, inputs) {
+        Ok(planned) => compact_planned(alloc, inputs, &planned, meter, out, err),
+        Err(uncompacted) => refuse_uncompacted(err, uncompacted),
+    }
+}
+
+/// The same of inputs whose plans and feed were looked at.
+fn compact_planned<M: Meter, W: Out, E: Out>(
+    alloc: Global,
+    inputs: &CompactInputs<'_>,
+    planned: &PlannedInputs<'_>,
+    meter: &M,
+    out: &mut W,
+    err: &mut E,
+) -> u8
+    requires { compact_asked inputs.now ≡ asked_in inputs.now (map arc_value planned.now.plans.items) (given_value planned.now.given) }
+    ensures ends { CompactEnds inputs.now result (W.written out.old) (W.written out.new) (E.written err.old) (E.written err.new) }
+    ensures quiet { result ≡ 0 → err.new ≡ err.old }
+{
+    match compacted(alloc, inputs, planned, meter) {
         Ok(compacted) => print_feed(&compacted.made.feed, out, err),
         Err(uncompacted) => refuse_uncompacted(err, uncompacted),
     }
 }
 
 /// Prints a feed, or the line of a refusal where that fails.
-fn print_feed<W: Out, E: Out>(feed: &[u8], out: &mut W, err: &mut E) -> u8
+fn print_feed<W: Out, E: Out>(feed: &CompactedFeed<'_>, out: &mut W, err: &mut E) -> u8
     ensures ends { IsPrinted feed.now result (W.written out.old) (W.written out.new) (E.written err.old) (E.written err.new) }
     ensures quiet { result ≡ 0 → err.new ≡ err.old }
 {
-    match put_all(out, feed) {
+    match feed.write(out) {
         Ok(()) => 0,
         Err(_) => refuse(err, &CommandRefusal::CannotWrite { file: "-" }),
     }
 }
 
-/// The new feed of a stream, up to just the group that the inputs say, and what is told of it. The faults are found in this
-/// order: those of the workflow; 115 where it has no such stream; 93 and the feed's own; of a position that is named 94 and
-/// 118; of each checkpoint 116 and 118; 91 where the feed has no group to be replaced; 123; 90; 95 where the new feed would
-/// be too long. Any other error is want of memory.
-pub fn compacted<M: Meter>(
+/// The new feed of a stream, up to just the group that the inputs say, and what is told of it: of the plans and the feed that
+/// `planned` gives for these inputs. The faults are found in this order, behind those of the workflow: 115 where it has no
+/// such stream; 93 and the feed's own; of a position that is named 94 and 118; of each checkpoint 116 and 118; 91 where the
+/// feed has no group to be replaced; 123; 90; 95 where the new feed would be too long. Any other error is want of memory.
+pub fn compacted<'f, M: Meter>(
     alloc: Global,
     inputs: &CompactInputs<'_>,
+    planned: &'f PlannedInputs<'_>,
     meter: &M,
-) -> Result<NewFeed, Uncompacted>
-    ensures compacted { IfOk result (λ c. IsCompacted inputs.now (compact_asked inputs.now) c.made.groups c.made.rows c.made.feed.items) }
-    ensures refused { IfErr result (λ uncompacted. RefusesCompact inputs.now uncompacted (compact_asked inputs.now)) }
+) -> Result<NewFeed<'f>, Uncompacted>
+    ensures compacted { IfOk result (λ c. IsCompacted inputs.now (asked_in inputs.now (map arc_value planned.now.plans.items) (given_value planned.now.given)) c.made.groups c.made.rows c.made.feed) }
+    ensures refused { IfErr result (λ uncompacted. RefusesCompact inputs.now uncompacted (asked_in inputs.now (map arc_value planned.now.plans.items) (given_value planned.now.given))) }
 {
-    let plans = read_plans(alloc, &inputs.workflow)?;
-    let new = compacted_under(alloc, inputs, &plans, meter)?;
-    Ok(new)
-}
-
-/// The same under the plans of the workflow.
-fn compacted_under<M: Meter>(
-    alloc: Global,
-    inputs: &CompactInputs<'_>,
-    plans: &[Arc<Plan>],
-    meter: &M,
-) -> Result<NewFeed, Uncompacted>
-    ensures compacted { IfOk result (λ c. IsCompacted inputs.now (asked_under inputs.now (map arc_value plans.now)) c.made.groups c.made.rows c.made.feed.items) }
-    ensures refused { IfErr result (λ uncompacted. RefusesCompact inputs.now uncompacted (asked_under inputs.now (map arc_value plans.now))) }
-{
-    let plan = plan_of(plans, inputs.stream)?;
-    let given = given_feed(alloc, inputs.feed_form, &inputs.feed)?;
-    let new = compacted_as(alloc, inputs, plans, plan, &given, meter)?;
+    let plan = plan_of(&planned.plans, inputs.stream)?;
+    let new = compacted_as(alloc, inputs, &planned.plans, plan, &planned.given, meter)?;
     Ok(new)
 }
 
 /// The same of the feed as it is given, under the plan of its stream, which is one of these.
-fn compacted_as<M: Meter>(
+fn compacted_as<'f, M: Meter>(
     alloc: Global,
     inputs: &CompactInputs<'_>,
     plans: &[Arc<Plan>],
     plan: &Arc<Plan>,
-    given: &GivenFeed<'_>,
+    given: &'f GivenFeed<'_>,
     meter: &M,
-) -> Result<NewFeed, Uncompacted>
-    ensures compacted { IfOk result (λ c. IsCompacted inputs.now (asked_as (map arc_value plans.now) (given_value given.now) (arc_value plan.now)) c.made.groups c.made.rows c.made.feed.items) }
+) -> Result<NewFeed<'f>, Uncompacted>
+    ensures compacted { IfOk result (λ c. IsCompacted inputs.now (asked_as (map arc_value plans.now) (given_value given.now) (arc_value plan.now)) c.made.groups c.made.rows c.made.feed) }
     ensures refused { IfErr result (λ uncompacted. RefusesCompact inputs.now uncompacted (asked_as (map arc_value plans.now) (given_value given.now) (arc_value plan.now))) }
 {
     match given.bytes() {
@@ -112,15 +116,15 @@ fn compacted_as<M: Meter>(
 }
 
 /// The same of the feed of these bytes.
-fn compacted_of<M: Meter>(
+fn compacted_of<'h, M: Meter>(
     alloc: Global,
     inputs: &CompactInputs<'_>,
     plans: &[Arc<Plan>],
     plan: &Arc<Plan>,
-    bytes: &[u8],
+    bytes: &'h [u8],
     meter: &M,
-) -> Result<NewFeed, Uncompacted>
-    ensures compacted { IfOk result (λ c. IsCompacted inputs.now (asked_of (map arc_value plans.now) (arc_value plan.now) bytes.now) c.made.groups c.made.rows c.made.feed.items) }
+) -> Result<NewFeed<'h>, Uncompacted>
+    ensures compacted { IfOk result (λ c. IsCompacted inputs.now (asked_of (map arc_value plans.now) (arc_value plan.now) bytes.now) c.made.groups c.made.rows c.made.feed) }
     ensures refused { IfErr result (λ uncompacted. RefusesCompact inputs.now uncompacted (asked_of (map arc_value plans.now) (arc_value plan.now) bytes.now)) }
 {
     let feed = open_feed(alloc, bytes, plan)?;
@@ -136,9 +140,9 @@ fn compacted_feed<'h, M: Meter>(
     bytes: &'h [u8],
     feed: &Feed<'h>,
     meter: &M,
-) -> Result<NewFeed, Uncompacted>
+) -> Result<NewFeed<'h>, Uncompacted>
     requires { groups_under bytes.now feed.now.plan ≡ Ok feed.now.groups }
-    ensures compacted { IfOk result (λ c. IsCompacted inputs.now (Ok (record { plans = map arc_value plans.now; bytes = bytes.now; feed = feed.now })) c.made.groups c.made.rows c.made.feed.items) }
+    ensures compacted { IfOk result (λ c. IsCompacted inputs.now (Ok (record { plans = map arc_value plans.now; bytes = bytes.now; feed = feed.now })) c.made.groups c.made.rows c.made.feed) }
     ensures refused { IfErr result (λ uncompacted. RefusesCompact inputs.now uncompacted (Ok (record { plans = map arc_value plans.now; bytes = bytes.now; feed = feed.now }))) }
 {
     let number = last_replaced(alloc, inputs, plans, feed)?;
@@ -165,10 +169,10 @@ fn line_of(
     alloc: Global,
     bytes: &[u8],
     feed: &Feed<'_>,
-    made: &Compaction,
+    made: &Compaction<'_>,
 ) -> Result<String, AllocError> {
     let (groups, rows) = (made.groups, made.rows);
-    let (old, new) = (bytes.len(), made.feed.len());
+    let (old, new) = (bytes.len(), made.feed.size());
     match feed.position(groups) {
         None => Ok(String::new(alloc)),
         Some(position) => format!(in alloc;

@@ -9,4 +9,5 @@ mod refusal;
 
 pub use compacting::{NewFeed, compact, compacted};
 pub use inputs::CompactInputs;
+pub use opening::{PlannedInputs, planned};
 pub use refusal::{Uncompacted, refuse_uncompacted};

@@ -5,12 +5,15 @@ ghost use Rattle.std.specs.Option.{option_copied};
 ghost use Rattle.std.specs.Arc.{arc_value};
 ghost use Rattle.filter_rule.specs.Reading.{plans_of};
 ghost use Rattle.source_feed.specs.Planned.{groups_under};
-ghost use Rattle.vrepl_compact.specs.Asked.{plan_or_none};
+ghost use Rattle.vrepl_compact.specs.Asked.{asked_in, compact_asked, plan_or_none};
+ghost use Rattle.vrepl_compact.specs.Compacted.{RefusesCompact};
 ghost use Rattle.vrepl_main.specs.Given.{given_value};
 ghost use Rattle.vrepl_main.specs.HexText.{feed_bytes, hex_bytes};
 ghost use Rattle.vrepl_main.specs.Opening.{feed_under, said_plans};
 ghost use Rattle.vrepl_main.specs.Reasons.{GivesOfInputs, RefusesInputs};
 
+use crate::inputs::CompactInputs;
+use crate::refusal::Uncompacted;
 use filter_rule::Plan;
 use source_feed::Feed;
 use std::alloc::{AllocError, Global};
@@ -18,11 +21,31 @@ use std::sync::Arc;
 use vrepl_choices::FeedForm;
 use vrepl_main::{CommandRefusal, GivenFeed, HexFault, bytes_of_hex};
 
-/// The plans of a workflow file.
-pub(crate) fn read_plans(
+/// The plans of the workflow that `compact` is given, and the feed as it is given.
+#[derive(Drop)]
+pub struct PlannedInputs<'f> {
+    /// The plans of the workflow's streams.
+    pub plans: Vec<Arc<Plan>>,
+    /// The feed.
+    pub given: GivenFeed<'f>,
+}
+
+/// The plans of the workflow, and the feed as it is given. Refused as the workflow is. Any other error is want of memory.
+pub fn planned<'f>(
     alloc: Global,
-    workflow: &[u8],
-) -> Result<Vec<Arc<Plan>>, CommandRefusal<'static>>
+    inputs: &'f CompactInputs<'_>,
+) -> Result<PlannedInputs<'f>, Uncompacted>
+    // What the inputs ask for is the feed of these plans and bytes.
+    ensures planned { IfOk result (λ p. compact_asked inputs.entry.now ≡ asked_in inputs.entry.now (map arc_value p.plans.items) (given_value p.given)) }
+    ensures refused { IfErr result (λ uncompacted. RefusesCompact inputs.entry.now uncompacted (compact_asked inputs.entry.now)) }
+{
+    let plans = read_plans(alloc, &inputs.workflow)?;
+    let given = given_feed(alloc, inputs.feed_form, &inputs.feed)?;
+    Ok(PlannedInputs { plans, given })
+}
+
+/// The plans of a workflow file.
+fn read_plans(alloc: Global, workflow: &[u8]) -> Result<Vec<Arc<Plan>>, CommandRefusal<'static>>
     ensures { GivesOfInputs (λ plans. map arc_value plans.items) result (said_plans (plans_of workflow.now)) }
 {
     let plans = Plan::read_all(alloc, workflow)?;
@@ -51,7 +74,7 @@ pub(crate) fn plan_of<'p>(
 }
 
 /// A feed that is given in some form. An error is want of memory.
-pub(crate) fn given_feed<'f>(
+fn given_feed<'f>(
     alloc: Global,
     form: FeedForm,
     feed: &'f [u8],

@@ -1,10 +1,11 @@
 //! Feeds whose first groups are compacted.
 
-use compaction::{CompactFault, Compaction, UnknownTables, compact};
+use compaction::{CompactFault, CompactedFeed, Compaction, UnknownTables, compact};
 use filter_rule::Plan;
 use pace::Unmetered;
 use source_feed::{Feed, FeedFault};
 use std::alloc::Global;
+use vdiff_core::Writer;
 
 /// The table `t` of the keyspace `ks`, whose rows of the lower half of ids pass.
 const WORKFLOW: &[u8] =
@@ -56,11 +57,19 @@ fn compacted(
     bytes: &[u8],
     number: u32,
     unknown: UnknownTables,
-) -> Option<Result<Compaction, CompactFault>> {
+) -> Option<Result<Compaction<'_>, CompactFault>> {
     let plans = Plan::read_all(alloc, WORKFLOW).ok()?;
     let plan = plans.first()?;
     let feed = Feed::open(alloc, bytes, plan).ok()?;
     Some(compact(alloc, bytes, &feed, number, unknown, &Unmetered))
+}
+
+/// The bytes of a compacted feed are these.
+fn is_written(alloc: Global, feed: &CompactedFeed<'_>, wanted: &[u8]) -> bool {
+    let mut written: Vec<u8> = Vec::new(alloc);
+    feed.write(&mut Writer::new(&mut written)).is_ok()
+        && written.as_slice() == wanted
+        && feed.size() == wanted.len()
 }
 
 /// A feed compacted up to a group is this one, with so many groups replaced by so many rows.
@@ -68,7 +77,7 @@ fn gives(alloc: Global, bytes: &[u8], number: u32, wanted: &[u8], counts: (u32, 
     let Some(Ok(made)) = compacted(alloc, bytes, number, UnknownTables::Refused) else {
         return false;
     };
-    made.feed.as_slice() == wanted && (made.groups, made.rows) == counts
+    is_written(alloc, &made.feed, wanted) && (made.groups, made.rows) == counts
 }
 
 /// A feed that is to be compacted as far as can be isn't, for this.
@@ -84,7 +93,7 @@ fn leaves_out(alloc: Global, bytes: &[u8], wanted: &[u8]) -> bool {
     let Some(Ok(made)) = compacted(alloc, bytes, 1, UnknownTables::LeftOut) else {
         return false;
     };
-    made.feed.as_slice() == wanted
+    is_written(alloc, &made.feed, wanted)
 }
 
 #[test]

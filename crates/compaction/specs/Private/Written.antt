@@ -1,7 +1,8 @@
 -- What is written of a base, message by message, and rows that wait to be written.
-use Rattle.std.specs.Prelude.{◌≡◌, ◌⊎◌, ◌<◌, ◌^◌, ℕ, List, [], ◌∷◌, ◌++◌, length, map, Some, Ok}
+use Rattle.std.specs.Prelude.{◌≡◌, ◌⊎◌, ◌<◌, ◌^◌, ℕ, List, [], ◌∷◌, ◌++◌, length, map, Some, Ok, false, is_none}
 use Rattle.std.specs.List.{AllByRecursion, flat_map}
 use Rattle.row_view.specs.Row.{RowValue}
+use Rattle.row_view.specs.WrittenRow.{IsWithinLimits}
 use Rattle.vevent.specs.Event.{event_at}
 use Rattle.vevent.specs.EventValue.{EventValue, Begin, Commit}
 use Rattle.filter_rule.specs.PlanValue.{PlanValue, table_of_name}
@@ -14,6 +15,7 @@ use Rattle.feed_bytes.specs.FieldBytes.{FieldBytesValue}
 use Rattle.feed_bytes.specs.Inserts.{inserts}
 use Rattle.compaction_laws.specs.Portions.{Portion, event_of, rows_of, IsOfOneTable}
 use Rattle.compaction.specs.Compacting.{others_message}
+use Rattle.compaction.specs.Private.Sized.{change_fields}
 
 -- messages were written behind what was there, and their events are read as these
 pub record AddsEvents (old new : List ℕ) (events : List EventValue) : Type 0 where
@@ -24,6 +26,10 @@ pub record AddsEvents (old new : List ℕ) (events : List EventValue) : Type 0 w
 -- a name by which a feed has a table of the plan
 abbrev pub IsNameOf : PlanValue → ℕ → List ℕ → Type 0
 IsNameOf plan table name = table_of_name plan (table_in_source (source_of plan) name) ≡ Some table
+
+-- a FIELD is of a table of the plan
+abbrev pub IsOfPlan : PlanValue → FieldBytesValue → Type 0
+IsOfPlan plan field = is_none (table_of_name plan (table_in_source (source_of plan) field.name)) ≡ false
 
 -- no FIELD of these has a name of this table
 abbrev pub AreOfOthers : PlanValue → ℕ → List FieldBytesValue → Type 0
@@ -41,6 +47,11 @@ AreNamed plan fields rows = AllByRecursion (λ row. HasName plan fields row.0.ta
 pub record WaitingValue : Type 0 where
   pub table : ℕ
   pub rows : List RowValue
+
+-- each of them is within the limits, and the changes that insert them have so many bytes
+pub record AreWaiting (rows : List RowValue) (changes : ℕ) : Type 0 where
+  pub limits : AllByRecursion IsWithinLimits rows
+  pub size : changes ≡ length (change_fields rows)
 
 -- what waits can be written, if something does
 abbrev pub CanBePut : PlanValue → List FieldBytesValue → WaitingValue → Type 0

@@ -3,8 +3,8 @@ use Rattle.compaction.proofs.CutLaws.{all_named}
 use Rattle.compaction.proofs.CompactLaws.{is_compaction, limit_stands, unsound_stands}
 use Rattle.compaction.proofs.compacting.compact.Goals as goal
 
-pub written-requires : goal.written-requires
-written-requires g c =
+pub with_base-requires : goal.with_base-requires
+with_base-requires g c =
     let cut = c.in_ok-cut.cut in
     all_named c.left_rows_have_columns.ensures c.args.feed.now c.args.bytes.now c.args.unknown c.args.number cut.fields.items cut.place.now cut.others cut.rest.now c.in_ok-rows.rows c.plan.ensures.whole c.requires
     c.in_ok-cut.ensures.cuts c.in_ok-rows.ensures.sound c.in_ok-rows.ensures.left
@@ -14,7 +14,7 @@ returns-clause-compacted g c =
     let cut = c.in_ok-cut.cut in
     let w = c.in_ok-new.ensures in
     is_compaction c.bytes_are_compacted.ensures c.messages_are_read_again.ensures c.args.feed.now c.args.bytes.now c.args.unknown c.args.number cut.fields.items cut.place.now cut.others cut.rest.now w.base c.in_ok-rows.rows
-    c.plan.ensures.whole c.requires c.in_ok-cut.ensures.cuts c.in_ok-rows.ensures.sound c.in_ok-rows.ensures.left w.adds c.in_ok-new.new.items w.parts w.short c.len.result c.len.ensures
+    c.plan.ensures.whole c.requires c.in_ok-cut.ensures.cuts c.in_ok-rows.ensures.sound c.in_ok-rows.ensures.left w.adds c.in_ok-new.new w.parts w.short c.len.result c.len.ensures
 
 pub returns-in_err-rows-clause-cause : goal.returns-in_err-rows-clause-cause
 returns-in_err-rows-clause-cause g c =

@@ -16,7 +16,8 @@ returns-then-branch-clause-cause g c =
     subst (λ o. (all : List GroupValue) → groups bytes source ≡ Ok all → MatchOption o ((number ≡ 0) ⊎ (length all < number)) (λ g. IsCutBehind bytes source number g.fields.items g.place.now g.others g.rest.now)) c.in-Some.is
     c.in_ok-cut.ensures in
     let found = subst (λ s. (all : List GroupValue) → groups bytes s ≡ Ok all → IsCutBehind bytes s number f.fields.items f.place.now f.others f.rest.now) c.source_for-source.ensures there in
-    loses_some c.args.feed.now bytes c.args.unknown number f.fields.items f.place.now f.others f.rest.now c.in_ok-would_lose.field-0 c.requires found c.in_ok-would_lose.ensures.lost c.if-branch.true
+    let said = rw c.deref-2.ensures.value at c.in_ok-would_lose.ensures.lost in
+    loses_some c.args.feed.now bytes c.args.unknown number f.fields.items f.place.now f.others f.rest.now c.in_ok-would_lose.field-0 c.requires found (λ all are. said all f.place.now f.others f.rest.now are (found all are)) c.if-branch.true
 
 pub returns-clause-cuts : goal.returns-clause-cuts
 returns-clause-cuts g c =
@@ -28,4 +29,5 @@ returns-clause-cuts g c =
     subst (λ o. (all : List GroupValue) → groups bytes source ≡ Ok all → MatchOption o ((number ≡ 0) ⊎ (length all < number)) (λ g. IsCutBehind bytes source number g.fields.items g.place.now g.others g.rest.now)) c.in-Some.is
     c.in_ok-cut.ensures in
     let found = subst (λ s. (all : List GroupValue) → groups bytes s ≡ Ok all → IsCutBehind bytes s number f.fields.items f.place.now f.others f.rest.now) c.source_for-source.ensures there in
-    cuts c.args.feed.now bytes c.args.unknown number f.fields.items f.place.now f.others f.rest.now c.in_ok-would_lose.field-0 c.requires found c.in_ok-would_lose.ensures.lost c.if-branch.false
+    let said = rw c.deref-2.ensures.value at c.in_ok-would_lose.ensures.lost in
+    cuts c.args.feed.now bytes c.args.unknown number f.fields.items f.place.now f.others f.rest.now c.in_ok-would_lose.field-0 c.requires found (λ all are. said all f.place.now f.others f.rest.now are (found all are)) c.if-branch.false

@@ -1,11 +1,8 @@
-use Rattle.vrepl_compact.proofs.EndLaws.{printed_ends, refused_ends}
+use Rattle.vrepl_compact.proofs.EndLaws.{refused_ends}
 use Rattle.vrepl_compact.proofs.compacting.compact.Goals as goal
 
 pub returns-in-Ok-clause-ends : goal.returns-in-Ok-clause-ends
-returns-in-Ok-clause-ends g c =
-    let made = c.in-Ok.compacted.made in
-    printed_ends c.args.inputs.now made.groups made.rows made.feed.items c.print_feed.result (g.W.Out.written c.args.out.now) (g.W.Out.written c.print_feed.new.out) (g.E.Out.written c.args.err.now) (g.E.Out.written c.print_feed.new.err)
-    c.in-Ok.ensures.compacted (rw c.deref.ensures.value at c.print_feed.ensures.ends)
+returns-in-Ok-clause-ends g c = c.compact_planned.ensures.ends
 
 pub returns-in-Err-clause-ends : goal.returns-in-Err-clause-ends
 returns-in-Err-clause-ends g c =

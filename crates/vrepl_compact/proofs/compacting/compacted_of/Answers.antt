@@ -17,7 +17,7 @@ returns-clause-compacted g c =
     let plan = arc_value c.args.plan.now in
     let made = c.in_ok-new.new.made in
     compacted_behind c.args.inputs.now (feed_under plan (groups_under c.args.bytes.now plan)) (λ feed. Ok (record { plans = map arc_value c.args.plans.now; bytes = c.args.bytes.now; feed = feed }))
-    c.in_ok-feed.feed made.groups made.rows made.feed.items c.in_ok-feed.ensures c.in_ok-new.ensures.compacted
+    c.in_ok-feed.feed made.groups made.rows made.feed c.in_ok-feed.ensures c.in_ok-new.ensures.compacted
 
 pub returns-in_err-feed-clause-refused : goal.returns-in_err-feed-clause-refused
 returns-in_err-feed-clause-refused g c =

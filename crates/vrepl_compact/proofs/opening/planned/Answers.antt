@@ -1,0 +1,26 @@
+use Rattle.std.proofs.Common.{map, sym, ap, ◌∙◌}
+use Rattle.std.proofs.lemmas.Result.{err_from_is_err_and}
+use Rattle.std.specs.Arc.{arc_value}
+use Rattle.outcome.specs.Outcome.{◌>>=◌}
+use Rattle.filter_rule.specs.Reading.{plans_of}
+use Rattle.vrepl_main.specs.Opening.{said_plans}
+use Rattle.vrepl_compact.specs.Asked.{asked_in, asked_under}
+use Rattle.vrepl_compact.proofs.AskedLaws.{refused_at}
+use Rattle.vrepl_compact.proofs.opening.planned.Goals as goal
+
+pub returns-clause-planned : goal.returns-clause-planned
+returns-clause-planned c =
+    let inputs = c.args.inputs.now in
+    ap (λ r. r >>= asked_under inputs) (rw c.deref.ensures.value at c.in_ok-plans.ensures)
+    ∙ ap (asked_in inputs (map arc_value c.in_ok-plans.plans.items)) (sym (rw c.deref-2.ensures.value at c.in_ok-given.ensures))
+
+pub returns-in_err-plans-clause-refused : goal.returns-in_err-plans-clause-refused
+returns-in_err-plans-clause-refused c =
+    let inputs = c.args.inputs.now in
+    let p = err_from_is_err_and c.from_residual.result c.from_residual.ensures.1 in
+    rw (p.1, p.2) (refused_at c.in_err-plans.field-0.0 (said_plans (plans_of inputs.workflow.items)) (asked_under inputs) (rw c.deref.ensures.value at c.in_err-plans.ensures))
+
+pub returns-in_err-given-clause-refused : goal.returns-in_err-given-clause-refused
+returns-in_err-given-clause-refused c =
+    let p = err_from_is_err_and c.from_residual-in_err-given.result c.from_residual-in_err-given.ensures.1 in
+    rw (p.1, p.2) tt
