@@ -11,7 +11,6 @@ pub mod KeptBlocks
 pub mod Planned
 pub mod Prepared
 pub mod FirstFault
-pub mod Growing
 pub mod TakesMemory
 pub mod Touches
 pub mod Sound

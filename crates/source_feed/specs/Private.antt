@@ -7,9 +7,7 @@ pub mod KeptGroups
 pub mod NamedGroups
 pub mod KeptChanges
 pub mod BlockEnd
-pub mod Start
 pub mod ReaderState
-pub mod KnownBehind
 pub mod TouchesBehind
 pub mod LeftRows
 pub mod RowCounts
