@@ -17,3 +17,4 @@ pub mod JobsAreSeated
 pub mod RunsLeaveSeats
 pub mod BoardsBehindRuns
 pub mod TurnsTakeGroupsIn
+pub mod TurnsAreTaken

@@ -8,7 +8,7 @@ ghost use Rattle.stream_worker.specs.Knowing.{Knows};
 ghost use Rattle.stream_worker.specs.SeatOf.{known, IsSeatOf, IsSeatFor, SawNoOther};
 ghost use Rattle.stream_worker.specs.Worked.{IsOfPlan, Follows, HasCome, EndsSeat, AreReceipts, GoesOn};
 ghost use Rattle.stream_worker.specs.Private.SeatSteps.{IsSeatReply, AreBehind, EndsSeatStep};
-ghost use Rattle.stream_worker.specs.Private.Turns.{IsReady, AreReady, IsNotReady, IsWholeTurn, IsNextOffer};
+ghost use Rattle.stream_worker.specs.Private.Turns.{IsReady, AreReady, IsNotReady, IsWholeTurn, IsNextOffer, TakesTurn, TurnIsDue};
 ghost use Rattle.stream_worker.specs.Steps.{AllStay, HasStepped};
 
 use crate::gate::Gate;
@@ -208,6 +208,8 @@ fn take_in<'a, 'h, R: Wait, G: Gate, A: Ahead<'h>>(
     ensures goes { IfOk result (λ went. went ≡ true) }
     // A turn that isn't refused gets on: a group is applied.
     ensures nearer { IfOk result (λ _. length receipts.old.items < length receipts.new.items) }
+    // It takes sixteen groups, or all that are left, or all up to one that isn't sound.
+    ensures turn { IfOk result (λ _. TakesTurn bench.now.feed.now number (length receipts.old.items) (length receipts.new.items)) }
     ensures refused { Follows bench.now.feed.now seat.old → IfErr result (EndsSeat bench.now.feed.now seat.new) }
 {
     know_feed(bench.feed);
@@ -331,6 +333,8 @@ fn go_on<'a, 'h, R: Wait, G: Gate, A: Ahead<'h>>(
     ensures is_at { IsSeatFor bench.now.shared.now seat.old.stream seat.new }
     ensures feed { A.feed ahead.new ≡ bench.now.feed.now }
     ensures goes_on { GoesOn bench.now.feed.now seat.old receipts.old.items seat.new receipts.new.items }
+    // Where a turn is due it is taken whole, and no step alone.
+    ensures turn { TurnIsDue bench.now.feed.now seat.old.cursor → IfOk result (λ _. TakesTurn bench.now.feed.now (seat.old.cursor.read + 1) (length receipts.old.items) (length receipts.new.items)) }
     ensures ended { Follows bench.now.feed.now seat.old → result ≡ Ok false → HasCome bench.now.feed.now seat.new }
     ensures refused { Follows bench.now.feed.now seat.old → IfErr result (EndsSeat bench.now.feed.now seat.new) }
 {

@@ -61,6 +61,19 @@ IsUnsoundAt feed n = (fault : FeedFault) × (prepared_at feed n ≡ Err fault)
 abbrev pub IsWholeTurn : FeedValue → ℕ → ℕ → Type 0
 IsWholeTurn feed n count = (count ≡ 16) ⊎ (n + count ≡ length feed.groups + 1) ⊎ IsUnsoundAt feed (n + count)
 
+-- a turn is due of a stream that stands so: it has copied all its tables and applied all that it read, and its feed has
+-- more groups
+pub record TurnIsDue (feed : FeedValue) (at : Standing) : Type 0 where
+  pub copied : at.done ≡ at.tables
+  pub applied : at.applied ≡ at.read
+  pub more : at.read < length feed.groups
+
+-- a whole turn from the n-th group on was taken: there is a receipt more for each of its groups
+pub record TakesTurn (feed : FeedValue) (n had has : ℕ) : Type 0 where
+  pub count : ℕ
+  pub whole : IsWholeTurn feed n count
+  pub taken : has ≡ had + count
+
 abbrev pub groups_of : List Ready → List PreparedValue
 groups_of readies = map (λ (ready : Ready). arc_value ready.group) readies
 
