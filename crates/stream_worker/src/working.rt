@@ -113,6 +113,7 @@ fn turn_end(feed: &Feed<'_>, number: u32) -> u32
     ensures within { result ≤ length feed.now.groups + 1 }
     ensures some { number < result }
     ensures long { (result ≡ length feed.now.groups + 1) ⊎ (result ≡ number + 16) }
+    ensures most { result ≤ number + 16 }
 {
     know_feed(feed);
     let behind = feed.len() as u32 + 1;
@@ -139,6 +140,7 @@ fn ready_groups<'a, 'h, R: Wait, G: Gate, A: Ahead<'h>>(
     ensures ready { IfOk result (λ readies. AreReady bench.now.feed.now seat.now.outline.marks number readies.items) }
     // There is one at least: so a turn gets on.
     ensures some { IfOk result (λ readies. 1 ≤ length readies.items) }
+    ensures most { IfOk result (λ readies. length readies.items ≤ 16) }
     ensures whole { IfOk result (λ readies. IsWholeTurn bench.now.feed.now number (length readies.items)) }
     ensures refused { IfErr result (IsNotReady bench.now.feed.now number) }
 {
@@ -208,7 +210,7 @@ fn take_in<'a, 'h, R: Wait, G: Gate, A: Ahead<'h>>(
     ensures goes { IfOk result (λ went. went ≡ true) }
     // A turn that isn't refused gets on: a group is applied.
     ensures nearer { IfOk result (λ _. length receipts.old.items < length receipts.new.items) }
-    // It takes sixteen groups, or all that are left, or all up to one that isn't sound.
+    // It takes sixteen groups, or fewer where these are all that are left, or all up to one that isn't sound.
     ensures turn { IfOk result (λ _. TakesTurn bench.now.feed.now number (length receipts.old.items) (length receipts.new.items)) }
     ensures refused { Follows bench.now.feed.now seat.old → IfErr result (EndsSeat bench.now.feed.now seat.new) }
 {

@@ -68,9 +68,12 @@ pub record TurnIsDue (feed : FeedValue) (at : Standing) : Type 0 where
   pub applied : at.applied ≡ at.read
   pub more : at.read < length feed.groups
 
--- a whole turn from the n-th group on was taken: there is a receipt more for each of its groups
+-- a whole turn from the n-th group on was taken, of one group at least and sixteen at most: there is a receipt more for
+-- each of its groups
 pub record TakesTurn (feed : FeedValue) (n had has : ℕ) : Type 0 where
   pub count : ℕ
+  pub some : 1 ≤ count
+  pub most : count ≤ 16
   pub whole : IsWholeTurn feed n count
   pub taken : has ≡ had + count
 
