@@ -1,6 +1,6 @@
 -- A feed that grows by a further piece: how much of the piece is taken, and why none of it is (this profile). Nothing here
 -- says how the bytes were cut into pieces: only what they are together.
-use Rattle.std.specs.Prelude.{◌≡◌, ◌⊎◌, ℕ, ◌^◌, List, [], ◌∷◌, ◌++◌, Bool, true, false, Option, None, Some, Ok, Err, length, reverse, nat_lt, if◌then◌else◌}
+use Rattle.std.specs.Prelude.{◌≡◌, ◌⊎◌, ℕ, ◌^◌, List, [], ◌∷◌, ◌++◌, true, false, Option, None, Some, Ok, Err, length, reverse, nat_lt, if◌then◌else◌}
 use Rattle.std.specs.List.{list_any}
 use Rattle.std.specs.Option.{option_or}
 use Rattle.proto_wire.specs.Reading.{Reading}

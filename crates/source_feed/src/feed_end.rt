@@ -27,7 +27,6 @@ impl<'h> FeedEnd<'h> {
         ensures plan { IfOk result (λ begun. begun.0.plan ≡ arc_value plan.now) }
         ensures err { IfErr result (λ fault. fault ≡ FeedFault.Memory) }
     {
-        let _ = (alloc, plan);
         Err(FeedFault::Memory)
     }
 }

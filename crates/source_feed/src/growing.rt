@@ -40,7 +40,6 @@ impl<'h> FeedEnd<'h> {
         // After a refusal feed and end are as they were.
         ensures left { OnErr result ((self.new ≡ self.old) × (feed.new ≡ feed.old)) }
     {
-        let _ = (alloc, feed, piece);
         Err(FeedFault::Memory)
     }
 }

@@ -1,5 +1,5 @@
 -- What a feed's end keeps of its bytes so far.
-use Rattle.std.specs.Prelude.{◌≡◌, ℕ, ◌+◌, ◌-◌, ◌≤◌, List, [], ◌∷◌, length, reverse, slice_get, Some}
+use Rattle.std.specs.Prelude.{◌≡◌, ℕ, ◌+◌, ◌-◌, ◌≤◌, List, [], length, reverse, slice_get, Some}
 use Rattle.std.specs.Option.{option_map, option_map_or}
 use Rattle.gtid_set.specs.Position.{IsCanonical}
 use Rattle.source_feed.specs.declared.feed_end.FeedEnd.{FeedEnd}
