@@ -10,6 +10,8 @@ pub mod BlockEnd
 pub mod Start
 pub mod ReaderState
 pub mod KnownBehind
+pub mod Walked
+pub mod ReadOn
 pub mod TouchesBehind
 pub mod LeftRows
 pub mod RowCounts

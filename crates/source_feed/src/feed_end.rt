@@ -27,6 +27,11 @@ impl<'h> FeedEnd<'h> {
         ensures plan { IfOk result (λ begun. begun.0.plan ≡ arc_value plan.now) }
         ensures err { IfErr result (λ fault. fault ≡ FeedFault.Memory) }
     {
-        Err(FeedFault::Memory)
+        let feed = Feed::of_nothing(alloc, plan)?;
+        let end = FeedEnd {
+            tables: FeedTables::new(alloc),
+            length: 0,
+        };
+        Ok((feed, end))
     }
 }
