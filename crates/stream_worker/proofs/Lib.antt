@@ -17,4 +17,3 @@ pub mod JobsAreSeated
 pub mod RunsLeaveSeats
 pub mod BoardsBehindRuns
 pub mod TurnsTakeGroupsIn
-pub mod TurnsAreTaken
