@@ -10,6 +10,8 @@ mod fitting;
 #[cfg(test)]
 mod groups;
 #[cfg(test)]
+mod growing;
+#[cfg(test)]
 mod image;
 #[cfg(test)]
 mod opening;

@@ -52,7 +52,7 @@ unless-then : (fault : Option FeedFault) (first : Result PastEvents FeedFault) (
 unless-then None first next = refl
 unless-then (Some fault) first next = refl
 
-past_behind-append : (source : SourceValue) (history : PastEvents) (front behind : List EventValue) (end : Option FeedFault)
+pub past_behind-append : (source : SourceValue) (history : PastEvents) (front behind : List EventValue) (end : Option FeedFault)
     → past_behind source history (front ++ behind) end ≡ (past_behind source history front None >>= λ h. past_behind source h behind end)
 past_behind-append source history [] behind end = refl
 past_behind-append source history (event ∷ front) behind end =

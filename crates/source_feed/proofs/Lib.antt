@@ -26,3 +26,8 @@ pub mod FrameLaws
 pub mod PiecesLaws
 pub mod TableLaws
 pub mod OneMoreLaws
+pub mod GrowingLaws
+pub mod WalkedLaws
+pub mod EndLaws
+pub mod ReadOnLaws
+pub mod GrownLaws

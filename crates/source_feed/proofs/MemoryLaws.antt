@@ -1,5 +1,5 @@
 -- Events behind which a reader of a feed may want memory.
-use Rattle.std.proofs.Common.{◌≡◌, ℕ, List, [], ◌∷◌, ◌++◌, Bool, true, Option, None, Some, Result, Ok, Err, IfErr, refl, sym, ap, subst, ◌∙◌, inl, inr}
+use Rattle.std.proofs.Common.{◌≡◌, ℕ, List, [], ◌∷◌, ◌++◌, true, Option, None, Some, Result, Ok, Err, IfErr, refl, sym, ap, subst, ◌∙◌, inl, inr}
 use Rattle.std.specs.List.{list_any}
 use Rattle.std.specs.Option.{option_map}
 use Rattle.outcome.specs.Outcome.{◌>>=◌, unless}
@@ -8,7 +8,7 @@ use Rattle.source_feed.specs.declared.fault.FeedFault.{FeedFault}
 use Rattle.source_feed.specs.declared.fault.FeedFault.TheVariants.{Misplaced, OpenAtEnd, Memory}
 use Rattle.source_feed.specs.GroupValue.{Position}
 use Rattle.source_feed.specs.SourceValue.{SourceValue}
-use Rattle.source_feed.specs.PastEvents.{PastEvents, last_field, width_of, body_position}
+use Rattle.source_feed.specs.PastEvents.{PastEvents, width_of, body_position}
 use Rattle.source_feed.specs.Groups.{fault_at}
 use Rattle.source_feed.specs.Private.EventByEvent.{past_behind}
 use Rattle.source_feed.specs.Private.FeedTables.{counted}

@@ -247,7 +247,7 @@ differs-from plan [] = refl
 differs-from plan (event ∷ events) = ap (λ b. differs plan event || b) (differs-from plan events)
 
 -- no event that was checked differs
-none_differs : (plan : PlanValue) (given : Option PlanValue) (before after : Bool) (events : List EventValue) → given ≡ Some plan → after ≡ false
+pub none_differs : (plan : PlanValue) (given : Option PlanValue) (before after : Bool) (events : List EventValue) → given ≡ Some plan → after ≡ false
     → after ≡ (before || list_any (differs_from given) events) → list_any (differs plan) events ≡ false
 none_differs plan given before after events g f e =
     sym (differs-from plan events) ∙ ap (λ o. list_any (differs_from o) events) (sym g) ∙ (or_parts before (list_any (differs_from given) events) (sym e ∙ f)).1

@@ -11,6 +11,7 @@ pub mod KeptBlocks
 pub mod Planned
 pub mod Prepared
 pub mod FirstFault
+pub mod Growing
 pub mod TakesMemory
 pub mod Touches
 pub mod Sound

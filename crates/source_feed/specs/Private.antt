@@ -7,7 +7,11 @@ pub mod KeptGroups
 pub mod NamedGroups
 pub mod KeptChanges
 pub mod BlockEnd
+pub mod Start
 pub mod ReaderState
+pub mod KnownBehind
+pub mod Walked
+pub mod ReadOn
 pub mod TouchesBehind
 pub mod LeftRows
 pub mod RowCounts

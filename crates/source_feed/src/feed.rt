@@ -1,6 +1,6 @@
 //! A feed under a plan.
 
-ghost use Rattle.std.specs.Prelude.{◌≡◌, ◌↔◌, ◌⊎◌, ◌^◌, ◌≤◌, [], length, take, IsTrue, IsOk, IfOk, IfErr, IfSome, Err, slice_get};
+ghost use Rattle.std.specs.Prelude.{◌≡◌, ◌↔◌, ◌⊎◌, ◌^◌, ◌≤◌, [], ◌++◌, length, take, IsTrue, IsOk, IfOk, IfErr, IfSome, OnOk, OnErr, Err, slice_get};
 ghost use Rattle.std.specs.Result.{result_err};
 ghost use Rattle.std.specs.Option.{option_copied, option_map};
 ghost use Rattle.std.specs.Arc.{arc_value};
@@ -10,6 +10,8 @@ ghost use Rattle.source_feed.specs.FirstFault.{StandsUnder};
 ghost use Rattle.source_feed.specs.Planned.{PlannedGroupValue, source_of, groups_under, IsFeed};
 ghost use Rattle.source_feed.specs.TakesMemory.{WantsMemory};
 ghost use Rattle.source_feed.specs.Prepared.{IsPrepared};
+ghost use Rattle.source_feed.specs.Private.KnownBehind.{reached_by};
+ghost use Rattle.source_feed.specs.Private.Start.{start_position};
 ghost use Rattle.source_feed.specs.Touches.{group_at, prepared_at};
 
 use crate::fault::FeedFault;
@@ -20,9 +22,10 @@ use crate::planned::{PlannedGroup, planned_groups};
 use crate::prepared::Prepared;
 use crate::preparing::touches_of;
 use crate::source::Source;
+use crate::start::Start;
 use filter_rule::Plan;
 use gtid_set::GtidSet;
-use std::alloc::Global;
+use std::alloc::{AllocError, Global};
 use std::marker::Model;
 use std::sync::Arc;
 
@@ -80,6 +83,43 @@ impl<'h> Feed<'h> {
             plan: Arc::clone(plan)?,
             groups,
         })
+    }
+
+    /// A feed of no bytes under a plan.
+    pub(crate) fn of_nothing(alloc: Global, plan: &Arc<Plan>) -> Result<Feed<'h>, AllocError>
+        ensures { IfOk result (λ feed. feed ≡ record { plan = arc_value plan.now; groups = [] }) }
+    {
+        // (for its contract: what is true of every plan)
+        plan.tables();
+        Ok(Feed {
+            plan: Arc::clone(plan)?,
+            groups: Vec::new(alloc),
+        })
+    }
+
+    /// What the feed's groups are to the events that follow.
+    pub(crate) fn start(&self) -> Result<Start, AllocError>
+        ensures groups { IfOk result (λ start. start.groups ≡ length self.now.groups) }
+        ensures position { IfOk result (λ start. start_position start ≡ reached_by self.now.groups) }
+    {
+        let position = match self.groups.last() {
+            None => None,
+            Some(group) => Some(Arc::clone(group.shared_position())?),
+        };
+        Ok(Start {
+            groups: self.count(),
+            position,
+        })
+    }
+
+    /// Puts further groups behind the others. Where a growth is refused, the feed is as it was.
+    pub(crate) fn put_behind(&mut self, more: Vec<PlannedGroup<'h>>) -> Result<(), AllocError>
+        requires { IsFeed (record { plan = self.old.plan; groups = self.old.groups ++ more.items }) }
+        ensures ok { OnOk result (self.new ≡ record { plan = self.old.plan; groups = self.old.groups ++ more.entry.items }) }
+        ensures err { OnErr result (self.new ≡ self.old) }
+    {
+        let mut more = more;
+        self.groups.append(&mut more)
     }
 
     /// How many groups the feed has; they are numbered from 1.

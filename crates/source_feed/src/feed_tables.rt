@@ -1,6 +1,6 @@
 //! The tables that a feed names, with what is known of each.
 
-ghost use Rattle.std.specs.Prelude.{◌≡◌, ℕ, List, Option, [], ◌++◌, ◌^◌, ◌≤◌, None, Some, length, OnOk, IfSome, option_map, get_or, if◌then◌else◌};
+ghost use Rattle.std.specs.Prelude.{◌≡◌, ℕ, List, Option, [], ◌++◌, ◌^◌, ◌≤◌, None, Some, length, OnOk, IfSome, IfOk, option_map, get_or, if◌then◌else◌};
 ghost use Rattle.std.specs.Str.{bytes_eq};
 ghost use Rattle.filter_rule.specs.PlanValue.{PlanValue};
 
@@ -38,6 +38,17 @@ impl<'h> FeedTables<'h> {
         FeedTables {
             first_seen: IndexMap::with_hasher(alloc, BuildHasherDefault::new()),
         }
+    }
+
+    /// The same tables once more.
+    pub(crate) fn copy(&self) -> Result<FeedTables<'h>, AllocError>
+        ensures widths { IfOk result (λ copy. (name : List ℕ) → width_in copy name ≡ width_in self.now name) }
+        ensures order { IfOk result (λ copy. names_in copy ≡ names_in self.now) }
+        ensures numbers { IfOk result (λ copy. numbers_in copy ≡ numbers_in self.now) }
+    {
+        Ok(FeedTables {
+            first_seen: self.first_seen.clone()?,
+        })
     }
 
     /// A table's place and its number of columns, if it is known. However many tables follow, the place has

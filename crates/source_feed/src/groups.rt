@@ -1,6 +1,6 @@
 //! The groups of a feed.
 
-ghost use Rattle.std.specs.Prelude.{◌≡◌, ◌||◌, ◌+◌, ◌^◌, ◌<◌, ◌≤◌, [], length, option_copied, Err, OnOk, IfOk, IfErr, IfSome};
+ghost use Rattle.std.specs.Prelude.{List, ◌≡◌, ◌||◌, ◌+◌, ◌^◌, ◌<◌, ◌≤◌, [], length, option_copied, Err, OnOk, IfOk, IfErr, IfSome};
 ghost use Rattle.std.specs.List.{list_any};
 ghost use Rattle.vevent.specs.Response.{response_of};
 ghost use Rattle.outcome.specs.Outcome.{GivesUnless, Refuses};
@@ -35,7 +35,7 @@ use vevent::Response;
 pub const FEED_BYTES: usize = 2_147_483_647;
 
 /// Takes the events of one message.
-fn put_message<'h>(
+pub(crate) fn put_message<'h>(
     alloc: Global,
     reader: &mut GroupReader<'h>,
     source: &Source<'_>,
@@ -43,13 +43,13 @@ fn put_message<'h>(
     message: &'h [u8],
 ) -> Result<(), FeedFault>
     requires { count_of reader.old + length (response_of message.now).items < 2 ^ 32 }
-    ensures meaning { (earlier : PastEvents) → IsBehind source.now earlier reader.old →
-        TakesEvents source.now (past_behind source.now earlier (response_of message.now).items (end_of_message (response_of message.now).fault)) result reader.new }
+    ensures meaning { (base : List GroupValue) (earlier : PastEvents) → IsBehind base source.now earlier reader.old →
+        TakesEvents base source.now (past_behind source.now earlier (response_of message.now).items (end_of_message (response_of message.now).fault)) result reader.new }
     ensures grows { OnOk result (count_of reader.new ≤ count_of reader.old + length (response_of message.now).items) }
     ensures numbers { OnOk result (AreNumbered (option_copied field_check.old.plan) reader.old.tables → AreNumbered (option_copied field_check.old.plan) reader.new.tables) }
     ensures plan { option_copied field_check.new.plan ≡ option_copied field_check.old.plan }
     ensures seen { OnOk result (field_check.new.differs ≡ (field_check.old.differs || list_any (differs_from (option_copied field_check.old.plan)) (response_of message.now).items)) }
-    ensures memory { (earlier : PastEvents) → IsBehind source.now earlier reader.old → result ≡ Err FeedFault.Memory → WantsFrom source.now earlier (response_of message.now).items }
+    ensures memory { (base : List GroupValue) (earlier : PastEvents) → IsBehind base source.now earlier reader.old → result ≡ Err FeedFault.Memory → WantsFrom source.now earlier (response_of message.now).items }
 {
     let mut events = Response::new(message);
     while let Some(event) = events.next_event()? {
@@ -67,7 +67,7 @@ fn put_feed<'h>(
     feed: &'h [u8],
 ) -> Result<GroupReader<'h>, FeedFault>
     requires { length feed.now < 2 ^ 31 }
-    ensures ok { IfOk result (λ reader. TakesEvents source.now (past_behind source.now [] (events_of_feed feed.now).items (events_of_feed feed.now).fault) result reader) }
+    ensures ok { IfOk result (λ reader. TakesEvents [] source.now (past_behind source.now [] (events_of_feed feed.now).items (events_of_feed feed.now).fault) result reader) }
     ensures few { IfOk result (λ reader. count_of reader < 2 ^ 31) }
     ensures numbers { IfOk result (λ reader. AreNumbered (option_copied field_check.old.plan) reader.tables) }
     ensures err { IfErr result (λ fault. Refuses meant_of fault (past_behind source.now [] (events_of_feed feed.now).items (events_of_feed feed.now).fault)) }

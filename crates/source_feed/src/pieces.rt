@@ -44,7 +44,7 @@ struct Front {
 }
 
 /// Whether no further byte makes a length of it.
-fn is_no_length(cause: WireFault) -> bool
+pub(crate) fn is_no_length(cause: WireFault) -> bool
     ensures { result ≡ is_no_length cause }
 {
     matches!(cause, WireFault::VarintTooLong)

@@ -192,6 +192,22 @@ fn planned_of<'h>(
     })
 }
 
+/// Groups of these tables under the plan in which the tables have their numbers.
+pub(crate) fn planned_of_tables<'h>(
+    alloc: Global,
+    tables: &FeedTables<'_>,
+    groups: Vec<KeptGroup<'h>>,
+) -> Result<Vec<PlannedGroup<'h>>, FeedFault>
+    ensures ok { IfOk result (λ under. under.items ≡ map (numbered_group (numbers_in tables.now)) groups.entry.items) }
+    ensures err { IfErr result (λ fault. fault ≡ Memory) }
+{
+    let mut under = Vec::with_capacity(alloc, groups.len())?;
+    for group in groups {
+        under.push(planned_of(alloc, tables, group)?)?;
+    }
+    Ok(under)
+}
+
 /// The groups under the plan in which the feed's tables have their numbers.
 pub(crate) fn planned_groups<'h>(
     alloc: Global,
@@ -201,9 +217,5 @@ pub(crate) fn planned_groups<'h>(
     ensures err { IfErr result (λ fault. fault ≡ Memory) }
 {
     let KeptGroups { tables, groups } = kept;
-    let mut under = Vec::with_capacity(alloc, groups.len())?;
-    for group in groups {
-        under.push(planned_of(alloc, &tables, group)?)?;
-    }
-    Ok(under)
+    planned_of_tables(alloc, &tables, groups)
 }

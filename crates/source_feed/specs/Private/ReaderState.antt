@@ -7,9 +7,10 @@ use Rattle.source_feed.specs.declared.fault.FeedFault.{FeedFault}
 use Rattle.source_feed.specs.declared.transaction.Transaction.{Transaction}
 use Rattle.source_feed.specs.declared.group_reader.GroupReader.{GroupReader}
 use Rattle.source_feed.specs.Private.BlockEnd.{last_position}
+use Rattle.source_feed.specs.Private.Start.{start_position, reached_in}
 use Rattle.outcome.specs.Outcome.{Refuses, IsFault}
 use Rattle.source_feed.specs.FaultNumber.{meant_of}
-use Rattle.source_feed.specs.GroupValue.{Position, TableChangeValue}
+use Rattle.source_feed.specs.GroupValue.{Position, TableChangeValue, GroupValue}
 use Rattle.source_feed.specs.SourceValue.{SourceValue}
 use Rattle.source_feed.specs.PastEvents.{PastEvents, is_open, width_of, body_position, body_changes}
 use Rattle.source_feed.specs.Groups.{seen, groups_of, fault_at}
@@ -29,26 +30,28 @@ abbrev pub body_held : List (List ℕ) → Option Transaction → Option Body
 body_held names None = None
 body_held names (Some transaction) = Some (record { position = transaction.position; changes = map (named names) transaction.changes.items })
 
--- how many groups and tables a reader has: an event adds one at most
+-- how many groups and tables there are, with the groups before the reader's: an event adds one at most
 abbrev pub count_of : GroupReader → ℕ
-count_of reader = length reader.groups.items + length (names_in reader.tables)
+count_of reader = reader.start.groups + length reader.groups.items + length (names_in reader.tables)
 
 -- The reader keeps what these events say, whatever tables the feed names later, with the last group's
--- position alone in place of the union of all earlier positions.
-pub record IsBehind (source : SourceValue) (history : PastEvents) (reader : GroupReader) : Type 0 where
+-- position alone in place of the union of all earlier positions. The groups of its start stand before its own.
+pub record IsBehind (base : List GroupValue) (source : SourceValue) (history : PastEvents) (reader : GroupReader) : Type 0 where
+  pub start : reader.start.groups ≡ length base
+  pub reached : start_position reader.start ≡ reached_in base
   pub body : (later : List (List ℕ)) → body_held (names_in reader.tables ++ later) reader.transaction ≡ body_of source history
   pub widths : (table : List ℕ) → width_in reader.tables table ≡ option_map counted (width_of source history table)
-  pub groups : (later : List (List ℕ)) → map (named_group (names_in reader.tables ++ later)) reader.groups.items ≡ groups_of source history
-  pub last : last_position reader.groups.items ≡ seen source history
+  pub groups : (later : List (List ℕ)) → base ++ map (named_group (names_in reader.tables ++ later)) reader.groups.items ≡ groups_of source history
+  pub last : last_position (start_position reader.start) reader.groups.items ≡ seen source history
   pub seen_canonical : IsCanonical (seen source history)
   pub body_canonical : (position : Position) → body_position source history ≡ Some position → IsCanonical position
 
 -- what a call that takes one more event answers and leaves
-abbrev pub TakesEvent : {X : Type 0} → SourceValue → PastEvents → EventValue → Result X FeedFault → GroupReader → Type 0
-TakesEvent source earlier event (Ok x) new = (fault_at source earlier event ≡ None) × IsBehind source (event ∷ earlier) new
-TakesEvent source earlier event (Err fault) new = IsFault meant_of fault (fault_at source earlier event)
+abbrev pub TakesEvent : {X : Type 0} → List GroupValue → SourceValue → PastEvents → EventValue → Result X FeedFault → GroupReader → Type 0
+TakesEvent base source earlier event (Ok x) new = (fault_at source earlier event ≡ None) × IsBehind base source (event ∷ earlier) new
+TakesEvent base source earlier event (Err fault) new = IsFault meant_of fault (fault_at source earlier event)
 
 -- what a call that takes some more events answers and leaves, where they say this
-abbrev pub TakesEvents : {X : Type 0} → SourceValue → Result PastEvents FeedFault → Result X FeedFault → GroupReader → Type 0
-TakesEvents source expected (Ok x) new = (history : PastEvents) × (expected ≡ Ok history) × IsBehind source history new
-TakesEvents source expected (Err fault) new = Refuses meant_of fault expected
+abbrev pub TakesEvents : {X : Type 0} → List GroupValue → SourceValue → Result PastEvents FeedFault → Result X FeedFault → GroupReader → Type 0
+TakesEvents base source expected (Ok x) new = (history : PastEvents) × (expected ≡ Ok history) × IsBehind base source history new
+TakesEvents base source expected (Err fault) new = Refuses meant_of fault expected

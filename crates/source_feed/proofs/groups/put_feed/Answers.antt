@@ -27,7 +27,7 @@ pub loop-reader-preserved : goal.loop-reader-preserved
 loop-reader-preserved c =
     let before = c.loop-reader.invariant.meaning in
     let frame = rw c.in-Some.is at c.in_ok-message.ensures in
-    let after = c.in_ok-put_message.ensures.meaning before.0 before.2 in
+    let after = c.in_ok-put_message.ensures.meaning [] before.0 before.2 in
     record {
       meaning = (
         after.0,
@@ -57,7 +57,7 @@ returns-in_err-put_message-clause-err c =
     rw (p.1, p.2)
     (refuses_along c.in_err-put_message.field-0.0 (past_behind c.args.source.now before.0 (response_of c.in-Some.message.now).items (end_of_message (response_of c.in-Some.message.now).fault)) _
     (λ e. refused_message c.args.source.now _ before.0 c.in-Some.message.now c.loop-reader.frames c.next_frame.new.self _ before.1 frame.0 frame.1 e)
-    (c.in_err-put_message.ensures.meaning before.0 before.2))
+    (c.in_err-put_message.ensures.meaning [] before.0 before.2))
 
 pub returns-in_err-put_message-clause-memory : goal.returns-in_err-put_message-clause-memory
 returns-in_err-put_message-clause-memory c =
@@ -66,4 +66,4 @@ returns-in_err-put_message-clause-memory c =
     let p = err_from_is_err_and c.from_residual-in_err-put_message.result c.from_residual-in_err-put_message.ensures.1 in
     λ is. before.3
     (wants_here c.args.source.now before.0 c.in-Some.message.now c.loop-reader.frames c.next_frame.new.self frame.0 frame.1
-    (c.in_err-put_message.ensures.memory before.0 before.2 (memory_of c.from_residual-in_err-put_message.result _ c.in_err-put_message.field-0.0 p.1 p.2 is)))
+    (c.in_err-put_message.ensures.memory [] before.0 before.2 (memory_of c.from_residual-in_err-put_message.result _ c.in_err-put_message.field-0.0 p.1 p.2 is)))

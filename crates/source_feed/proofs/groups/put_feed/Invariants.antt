@@ -15,7 +15,7 @@ abbrev pub invariant-loop-reader : goal.invariant-loop-reader
 invariant-loop-reader l = record {
   meaning : (history : PastEvents)
       × (past_behind l.source [] (events_of_feed l.feed).items (events_of_feed l.feed).fault ≡ past_behind l.source history (events_in_messages l.frames.items l.frames.fault).items (events_in_messages l.frames.items l.frames.fault).fault)
-      × IsBehind l.source history l.reader
+      × IsBehind [] l.source history l.reader
       × (WantsFrom l.source history (events_in_messages l.frames.items l.frames.fault).items → WantsFrom l.source [] (events_of_feed l.feed).items);
   room : count_of l.reader + length (events_in_messages l.frames.items l.frames.fault).items ≤ length l.feed;
   numbers : AreNumbered (option_copied l.fn.field_check.plan) l.reader.tables;

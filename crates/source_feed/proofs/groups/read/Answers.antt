@@ -34,13 +34,18 @@ given feed source short view result history e g = gives_along view result (group
 pub returns-clause-groups : goal.returns-clause-groups
 returns-clause-groups c =
     let all = c.in_ok-reader.ensures.ok in
-    given c.args.feed.now c.args.source.now (omega arith) all_named c.end.result all.0 all.1 (c.end.ensures.groups c.args.source.now all.0 all.2)
+    given c.args.feed.now c.args.source.now (omega arith) all_named c.end.result all.0 all.1 (c.end.ensures.groups [] c.args.source.now all.0 all.2)
 
 pub returns-clause-order : goal.returns-clause-order
 returns-clause-order c =
     let all = c.in_ok-reader.ensures.ok in
     in_order c.set_laws.ensures all_named c.args.feed.now c.args.source.now c.end.result
-    (given c.args.feed.now c.args.source.now (omega arith) all_named c.end.result all.0 all.1 (c.end.ensures.groups c.args.source.now all.0 all.2))
+    (given c.args.feed.now c.args.source.now (omega arith) all_named c.end.result all.0 all.1 (c.end.ensures.groups [] c.args.source.now all.0 all.2))
 
 pub returns-clause-memory : goal.returns-clause-memory
 returns-clause-memory c = λ is. absurd (not_memory_at_end c.end.result c.end.ensures.refused is)
+
+pub returns-clause-tables : goal.returns-clause-tables
+returns-clause-tables c =
+    let all = c.in_ok-reader.ensures.ok in
+    c.end.ensures.tables [] c.args.source.now all.0 all.2

@@ -1,0 +1,14 @@
+-- What stands before the events that a reader takes.
+use Rattle.std.specs.Prelude.{◌-◌, List, [], length, slice_get}
+use Rattle.std.specs.Arc.{arc_value}
+use Rattle.std.specs.Option.{option_map_or}
+use Rattle.source_feed.specs.declared.start.Start.{Start}
+use Rattle.source_feed.specs.GroupValue.{Position, GroupValue}
+
+-- the position that is reached there; the empty one where no group stands before
+abbrev pub start_position : Start → Position
+start_position start = option_map_or arc_value start.position []
+
+-- the position of the last of some groups, or the empty one
+abbrev pub reached_in : List GroupValue → Position
+reached_in groups = option_map_or (λ (group : GroupValue). group.position) (slice_get groups (length groups - 1)) []
