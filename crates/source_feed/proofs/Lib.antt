@@ -12,6 +12,7 @@ pub mod OrderLaws
 pub mod BeginningLaws
 pub mod DefinedLaws
 pub mod KeptLaws
+pub mod ClauseLaws
 pub mod PlanLaws
 pub mod PlannedLaws
 pub mod NumberedLaws

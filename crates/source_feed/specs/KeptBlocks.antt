@@ -36,8 +36,11 @@ pub record IsKeptBlock (all : List Block) (i : ℕ) (block : Block) : Type 0 whe
 
 -- The groups are the blocks that are kept: each such block is a group, whose number is 1 plus the
 -- number of kept blocks before it, and each group is such a block.
-pub record AreKeptBlocks (source : SourceValue) (past : PastEvents) : Type 0 where
-  pub each_block : (i : ℕ) (block : Block) → IsKeptBlock (blocks source past) i block
-      → slice_get (groups_of source past) (kept_before (blocks source past) i) ≡ Some (group_as (kept_before (blocks source past) i + 1) block)
-  pub each_group : (n : ℕ) (group : GroupValue) → slice_get (groups_of source past) n ≡ Some group
-      → (i : ℕ) × (block : Block) × IsKeptBlock (blocks source past) i block × (kept_before (blocks source past) i ≡ n) × (group ≡ group_as (n + 1) block)
+pub record AreGroupsOf (all : List Block) (groups : List GroupValue) : Type 0 where
+  pub each_block : (i : ℕ) (block : Block) → IsKeptBlock all i block → slice_get groups (kept_before all i) ≡ Some (group_as (kept_before all i + 1) block)
+  pub each_group : (n : ℕ) (group : GroupValue) → slice_get groups n ≡ Some group
+      → (i : ℕ) × (block : Block) × IsKeptBlock all i block × (kept_before all i ≡ n) × (group ≡ group_as (n + 1) block)
+
+-- the groups of a past are those of its blocks
+abbrev pub AreKeptBlocks : SourceValue → PastEvents → Type 0
+AreKeptBlocks source past = AreGroupsOf (blocks source past) (groups_of source past)

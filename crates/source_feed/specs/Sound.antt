@@ -1,6 +1,6 @@
 -- What the touches of a group's changes are, and what stands in a group that has none, said of each change
 -- and of the whole list of changes (this profile).
-use Rattle.std.specs.Prelude.{◌≡◌, ◌⊎◌, ◌↔◌, ℕ, List, [], ◌∷◌, ◌++◌, Bool, Option, Some, None, Ok, Err, IsOk, length, slice_get}
+use Rattle.std.specs.Prelude.{◌≡◌, ◌⊎◌, ◌↔◌, ℕ, List, [], ◌∷◌, ◌++◌, Bool, Option, Some, None, Ok, Err, IsOk, IsSomeAnd, MatchOption, length, slice_get}
 use Rattle.std.specs.List.{AllByRecursion, flat_map}
 use Rattle.vindex.specs.FaultNumber as filter
 use Rattle.vindex.specs.declared.faults.VindexFault.{VindexFault}
@@ -10,9 +10,9 @@ use Rattle.pk_copy.specs.FaultNumber as keys
 use Rattle.pk_copy.specs.KeyValue.{KeyValue}
 use Rattle.pk_copy.specs.KeyOf.{key_of}
 use Rattle.source_feed.specs.declared.fault.FeedFault.{FeedFault}
-use Rattle.source_feed.specs.declared.fault.FeedFault.TheVariants.{BadRow}
-use Rattle.source_feed.specs.Planned.{PlannedChangeValue}
-use Rattle.source_feed.specs.Touches.{TouchValue, touches_of}
+use Rattle.source_feed.specs.declared.fault.FeedFault.TheVariants.{BadRow, NoGroup}
+use Rattle.source_feed.specs.Planned.{PlannedChangeValue, PlannedGroupValue, FeedValue}
+use Rattle.source_feed.specs.Touches.{TouchValue, touches_of, group_at}
 
 abbrev pub ChangeRow : Type 0
 ChangeRow = List (Option (List ℕ))
@@ -115,3 +115,14 @@ pub record IsFirstUnsound (plan : PlanValue) (group : ℕ) (changes : List Plann
 pub record TouchesByChange (plan : PlanValue) (group : ℕ) (changes : List PlannedChangeValue) : Type 0 where
   pub given : (touches : List TouchValue) → (touches_of plan group changes ≡ Ok touches) ↔ AreOfChanges plan changes touches
   pub refused : (fault : FeedFault) → (touches_of plan group changes ≡ Err fault) ↔ IsFirstUnsound plan group changes fault
+
+-- ---- a group of a feed
+
+-- the feed has the group, and these are the touches of its changes
+abbrev pub AreTouchesAt : FeedValue → ℕ → List TouchValue → Type 0
+AreTouchesAt feed number touches = IsSomeAnd (group_at feed number) (λ (group : PlannedGroupValue). AreOfChanges feed.plan group.changes touches)
+
+-- the feed has no such group, or this is the first that isn't sound of its changes
+abbrev pub IsCauseAt : FeedValue → ℕ → FeedFault → Type 0
+IsCauseAt feed number fault =
+    MatchOption (group_at feed number) (fault ≡ NoGroup (length feed.groups)) (λ (group : PlannedGroupValue). IsFirstUnsound feed.plan group.number group.changes fault)

@@ -12,12 +12,14 @@ ghost use Rattle.source_feed.specs.TakesMemory.{WantsMemory};
 ghost use Rattle.source_feed.specs.Prepared.{IsPrepared};
 ghost use Rattle.source_feed.specs.Private.KnownBehind.{reached_by};
 ghost use Rattle.source_feed.specs.Private.Start.{start_position};
+ghost use Rattle.source_feed.specs.Sound.{AreTouchesAt, IsCauseAt};
 ghost use Rattle.source_feed.specs.Touches.{group_at, prepared_at};
 
 use crate::fault::FeedFault;
 use crate::field_check::FieldCheck;
 use crate::groups::read;
 use crate::judging::judge;
+use crate::laws::touches_are_those_of_the_changes;
 use crate::planned::{PlannedGroup, planned_groups};
 use crate::prepared::Prepared;
 use crate::preparing::touches_of;
@@ -191,11 +193,16 @@ impl<'h> Feed<'h> {
     pub fn prepare(&self, alloc: Global, number: u32) -> Result<Arc<Prepared<'h>>, FeedFault>
         ensures exact { GivesUnless meant_of (λ prepared. arc_value prepared) result (prepared_at self.now number) }
         ensures number { IfOk result (λ prepared. (arc_value prepared).number ≡ number) }
+        // Its touches are those of the group's changes, one change after another.
+        ensures touches { IfOk result (λ prepared. AreTouchesAt self.now number (arc_value prepared).touches) }
+        // A refusal is that there is no such group, or the first of its changes that isn't sound.
+        ensures cause { IfErr result (λ fault. IfSome (meant_of fault) (IsCauseAt self.now number)) }
         // Each key is of a table of the plan, and each row that is put has that table's width.
         ensures whole { IfOk result (λ prepared. IsPrepared (arc_value prepared)) }
         // Memory is wanted for a sound group alone: where a growth is refused, the group is judged without.
         ensures memory { result ≡ Err FeedFault.Memory → IsOk (prepared_at self.now number) }
     {
+        touches_are_those_of_the_changes();
         match self.prepared(alloc, number) {
             Err(FeedFault::Memory) => Err(self.wanted(number)),
             answer => answer,

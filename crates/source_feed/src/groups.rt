@@ -1,6 +1,6 @@
 //! The groups of a feed.
 
-ghost use Rattle.std.specs.Prelude.{List, ◌≡◌, ◌||◌, ◌+◌, ◌^◌, ◌<◌, ◌≤◌, [], length, option_copied, Err, OnOk, IfOk, IfErr, IfSome};
+ghost use Rattle.std.specs.Prelude.{List, ◌≡◌, ◌||◌, ◌+◌, ◌^◌, ◌<◌, ◌≤◌, [], length, reverse, option_copied, Err, OnOk, IfOk, IfErr, IfSome};
 ghost use Rattle.std.specs.List.{list_any};
 ghost use Rattle.vevent.specs.Response.{response_of};
 ghost use Rattle.outcome.specs.Outcome.{GivesUnless, Refuses};
@@ -10,7 +10,9 @@ ghost use Rattle.source_feed.specs.PastEvents.{PastEvents};
 ghost use Rattle.source_feed.specs.declared.fault.FeedFault.TheVariants.{FeedTooLong};
 ghost use Rattle.source_feed.specs.GroupValue.{GroupValue};
 ghost use Rattle.source_feed.specs.GroupOrder.{AreInOrder};
+ghost use Rattle.source_feed.specs.Grammar.{blocks};
 ghost use Rattle.source_feed.specs.Groups.{groups};
+ghost use Rattle.source_feed.specs.KeptBlocks.{AreGroupsOf};
 ghost use Rattle.source_feed.specs.FirstFault.{StandsIn};
 ghost use Rattle.source_feed.specs.TakesMemory.{WantsFrom, WantsMemory};
 ghost use Rattle.source_feed.specs.Private.EventByEvent.{past_behind};
@@ -25,6 +27,7 @@ use crate::fault::FeedFault;
 use crate::field_check::FieldCheck;
 use crate::group_reader::GroupReader;
 use crate::kept::KeptGroups;
+use crate::laws::groups_are_the_kept_blocks;
 use crate::set_laws::set_laws;
 use crate::source::Source;
 use proto_wire::Frames;
@@ -129,6 +132,8 @@ pub fn read_groups<'h>(
     // They are numbered 1, 2, .., their positions grow from the empty set, and they are fewer than 2^31.
     ensures order { IfOk result (λ all. AreInOrder (λ (g : GroupValue). g.number) (λ (g : GroupValue). g.position) all.items) }
     ensures few { IfOk result (λ all. length all.items < 2 ^ 31) }
+    // They are the blocks of the feed's events that are kept, block by block.
+    ensures kept { IfOk result (λ all. AreGroupsOf (blocks (record { keyspace = keyspace.now; shard = shard.now }) (reverse (events_of_feed feed.now).items)) all.items) }
     // A feed above the limit is refused for that, before all else.
     ensures too_long { 2 ^ 31 ≤ length feed.now → result ≡ Err FeedTooLong }
     // What a refusal says stands in the feed, and nothing is at fault before it.
@@ -136,6 +141,7 @@ pub fn read_groups<'h>(
     // Memory is wanted only where an event that takes memory is read, and nothing before it is at fault.
     ensures memory { result ≡ Err FeedFault.Memory → WantsMemory feed.now (record { keyspace = keyspace.now; shard = shard.now }) }
 {
+    groups_are_the_kept_blocks();
     let source = Source { keyspace, shard };
     let kept = read(alloc, feed, &source, &mut FieldCheck::new(None))?;
     Ok(Groups::new(kept))

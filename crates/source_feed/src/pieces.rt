@@ -9,6 +9,7 @@ ghost use Rattle.source_feed.specs.declared.fault.FeedFault.TheVariants.{FeedToo
 
 use crate::fault::FeedFault;
 use crate::groups::FEED_BYTES;
+use crate::laws::whole_is_said_by_the_bytes;
 use proto_wire::{Frames, WireFault};
 use std::alloc::Global;
 use std::marker::Model;
@@ -127,8 +128,13 @@ impl FeedBuilder {
 
     /// The longest beginning of the pieces that is whole messages. Takes no memory.
     pub fn whole(&self) -> &[u8]
-        ensures { IsLongestWhole self.now result.now }
+        ensures longest { IsLongestWhole self.now result.now }
+        // There is no other, wherever the pieces were cut.
+        ensures one { (whole : List ℕ) → IsLongestWhole self.now whole → whole ≡ result.now }
+        // Its messages are all that the pieces begin with.
+        ensures messages { (frames_of result.now).items ≡ (frames_of self.now).items }
     {
+        whole_is_said_by_the_bytes();
         &self.bytes[..self.end]
     }
 
