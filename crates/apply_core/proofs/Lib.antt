@@ -31,3 +31,5 @@ pub mod CourseStepsAreAllowed
 pub mod StreamsStillRead
 pub mod CourseStepsOfBoards
 pub mod StreamsThatStandSo
+pub mod GrowingLaws
+pub mod OneRunLaws

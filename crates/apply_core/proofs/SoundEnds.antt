@@ -1,5 +1,5 @@
 -- Streams at their feeds' ends have read no group that isn't sound.
-use Rattle.std.proofs.Common.{◌≡◌, ◌∙◌, ℕ, zero, suc, ◌<◌, ◌≤◌, List, [], ◌∷◌, length, map, take, Option, Some, None, Result, Ok, Err, slice_get, sym, ap, subst, arith}
+use Rattle.std.proofs.Common.{◌≡◌, ◌≢◌, ◌∙◌, ℕ, zero, suc, ◌<◌, ◌≤◌, List, [], ◌∷◌, length, map, take, Option, Some, None, Result, Ok, Err, slice_get, sym, ap, subst, arith}
 use Rattle.std.proofs.lemmas.List.{length-map}
 use Rattle.std.proofs.lemmas.Option.{same_Some, none-some, slice_get_within}
 use Rattle.std.specs.Prelude.{IfSome}
@@ -11,6 +11,7 @@ use Rattle.source_feed.specs.Touches.{PreparedValue, prepared}
 use Rattle.board_laws.specs.Meaning.{State, Meaning}
 use Rattle.board_laws.specs.Reading.{ReadsFeed, HasFeed}
 use Rattle.apply_core.specs.Ended.{HasEnded, IsFedBoard, AllHaveEnded, AreSound}
+use Rattle.apply_core.specs.LowerEnded.{HaveEndedBelow, LowerHaveEnded, EndsBelow, LowerCanEnd}
 use Rattle.apply_core.specs.RunRefused.{IsLowest, IsOfStream, refused_stream}
 use Rattle.apply_core.specs.declared.run_refusal.RunRefusal.{RunRefusal}
 use Rattle.apply_core.specs.declared.run_refusal.RunRefusal.TheVariants.{FeedCount, WrongPlan, Unsound, OwnedByOther, Memory}
@@ -67,3 +68,27 @@ lowest-of feeds board s fed ended refusal of = by (refused_stream refusal) of
     by : (o : Option ℕ) → IfSome o (λ t. t ≡ s) → IfSome o (λ u. (t : ℕ) (feed : FeedValue) → t < u → slice_get feeds t ≡ Some feed → length (sound_groups feed) ≡ length feed.groups)
     by None h = tt
     by (Some u) h = λ t feed less at. feed-sound feeds board fed t feed at (λ state here. ended t feed state (omega (arith, less, h)) at here)
+
+-- they still have on the board behind it, which is as it was but for the stream that is refused
+pub lower-ended : (feeds : List FeedValue) (before after : Meaning) (s : ℕ)
+    → ((t : ℕ) (feed : FeedValue) (state : State) → t < s → slice_get feeds t ≡ Some feed → slice_get before.streams t ≡ Some state → HasEnded feed state)
+    → ((t : ℕ) → t ≢ s → slice_get after.streams t ≡ slice_get before.streams t)
+    → (refusal : RunRefusal) → IsOfStream s refusal → LowerHaveEnded feeds after refusal
+lower-ended feeds before after s ended others refusal of = by (refused_stream refusal) of
+  where
+    by : (o : Option ℕ) → IfSome o (λ t. t ≡ s) → IfSome o (HaveEndedBelow feeds after)
+    by None h = tt
+    by (Some u) h = λ t less feed state at_f at_s.
+        ended t feed state (omega (arith, less, h)) at_f (sym (others t (λ e. omega (arith, e, less, h))) ∙ at_s)
+
+-- so there is such a board
+pub lower-can_end : (feeds : List FeedValue) (board : Meaning) → IsFedBoard feeds board → (refusal : RunRefusal) → LowerHaveEnded feeds board refusal → LowerCanEnd feeds refusal
+lower-can_end feeds board fed refusal ended = by (refused_stream refusal) ended
+  where
+    by : (o : Option ℕ) → IfSome o (HaveEndedBelow feeds board) → IfSome o (EndsBelow feeds)
+    by None h = tt
+    by (Some s) h = record { board = board; fed = fed; lower = h }
+
+-- a refusal of no stream needs none
+pub none-can_end : (feeds : List FeedValue) (refusal : RunRefusal) → refused_stream refusal ≡ None → LowerCanEnd feeds refusal
+none-can_end feeds refusal e = subst (λ (o : Option ℕ). IfSome o (EndsBelow feeds)) (sym e) tt

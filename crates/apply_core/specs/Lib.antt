@@ -1,10 +1,13 @@
 pub mod Fresh
 pub mod Feeds
+pub mod Growing
 pub mod Schedules
+pub mod OneRun
 pub mod Putting
 pub mod Courses
 pub mod Ended
 pub mod RunRefused
+pub mod LowerEnded
 pub mod Private
 pub mod Shown
 pub mod Resuming

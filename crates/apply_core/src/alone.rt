@@ -6,6 +6,7 @@ ghost use Rattle.apply_core.specs.Feeds.{AreFed};
 ghost use Rattle.apply_core.specs.Shown.{all_rows};
 ghost use Rattle.apply_core.specs.Ended.{StreamHasEnded, OthersStay, IsNamedStream, HaveEnded, IsFedBoard, AllHaveEnded, AreAsBefore, IsRowsUnion};
 ghost use Rattle.apply_core.specs.RunRefused.{EndsRun, StopsWanting, IsRefusedRun, IsLowest, IsOfStream, refused_stream};
+ghost use Rattle.apply_core.specs.LowerEnded.{LowerCanEnd, LowerHaveEnded};
 ghost use Rattle.apply_core.specs.Courses.{left_on};
 ghost use Rattle.apply_core.specs.Private.AllowedSteps.{EndsStream, ended_as};
 
@@ -54,7 +55,7 @@ fn go_on<'h>(
     requires fed { IsFedBoard feeds.now board.old }
     requires there { s < length feeds.now }
     ensures fed { IsFedBoard feeds.now board.new }
-    ensures others { OnOk result (OthersStay s board.old board.new) }
+    ensures others { OthersStay s board.old board.new }
     ensures nearer { IfOk result (λ went. IsTrue went → left_on feeds.now board.new s course.new.to_copy < left_on feeds.now board.old s course.old.to_copy) }
     ensures ended { IfOk result (λ went. went ≡ false → StreamHasEnded feeds.now s board.new) }
     ensures refused { IfErr result (EndsRun feeds.now) }
@@ -86,7 +87,7 @@ fn run_stream<'h>(
     requires fed { IsFedBoard feeds.now board.old }
     requires there { s < length feeds.now }
     ensures fed { IsFedBoard feeds.now board.new }
-    ensures others { OnOk result (OthersStay s board.old board.new) }
+    ensures others { OthersStay s board.old board.new }
     ensures ended { OnOk result (StreamHasEnded feeds.now s board.new) }
     ensures refused { IfErr result (EndsRun feeds.now) }
     ensures memory { IfErr result (StopsWanting feeds.now board.new) }
@@ -110,6 +111,7 @@ pub(crate) fn run_all<'h>(
     ensures refused { IfErr result (EndsRun feeds.now) }
     ensures memory { IfErr result (StopsWanting feeds.now board.new) }
     ensures lowest { IfErr result (IsLowest feeds.now) }
+    ensures lower { IfErr result (LowerHaveEnded feeds.now board.new) }
 {
     for s in 0..feeds.len() {
         match run_stream(alloc, board, feeds, s as u8, policy) {
@@ -170,8 +172,10 @@ pub fn run_alone<'h>(
     // The target has just the rows that the feeds keep.
     ensures rows { IfOk result (λ board. IsRowsUnion feeds.now (all_rows board.rows)) }
     ensures refused { IfErr result (IsRefusedRun (map arc_value plans.items) feeds.now) }
-    // Every lower stream has come to its feed's end.
+    // All groups of every lower stream's feed are sound.
     ensures lowest { IfErr result (IsLowest feeds.now) }
+    // There is a board on which every lower stream has come to its feed's end: the one that the run leaves.
+    ensures lower { IfErr result (LowerCanEnd feeds.now) }
 {
     ended_boards_have_the_union();
     let mut board = board_to_run(alloc, plans, feeds)?;

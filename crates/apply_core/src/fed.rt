@@ -4,6 +4,7 @@ ghost use Rattle.std.specs.Prelude.{◌≡◌, ℕ, ◌<◌, ◌≤◌, None, So
 ghost use Rattle.std.specs.Arc.{arc_value};
 ghost use Rattle.std.specs.Option.{option_map_or};
 ghost use Rattle.checkpoint_core.specs.Fault.{HasParts};
+ghost use Rattle.source_feed.specs.Growing.{AreOfOneFeed};
 ghost use Rattle.board_laws.specs.declared.refusal.Refusal.TheVariants.{NoStream};
 ghost use Rattle.board_laws.specs.Agreement.{SameStepsSameBoard, LoneRunsShowAlike, DisjointRunsShowAlike};
 ghost use Rattle.board_laws.specs.FedBoards.{IsFedBoard, HasGrown};
@@ -14,25 +15,31 @@ ghost use Rattle.board_laws.specs.Sources.{applied_position, ShowAll};
 ghost use Rattle.apply_core.specs.Ended.{AllHaveEnded, AreAsBefore, AreSound, HaveEnded, IsNamedStream, IsRowsUnion};
 ghost use Rattle.apply_core.specs.Feeds.{AreFed, IsOfOwnFeed, IsRefusedInput};
 ghost use Rattle.apply_core.specs.Fresh.{fresh_board};
+ghost use Rattle.apply_core.specs.Growing.{GrowsAt, IsRefusedGrow};
 ghost use Rattle.apply_core.specs.Resuming.{IsResumed, IsRefusedResume};
 ghost use Rattle.apply_core.specs.RunRefused.{EndsRun, StopsWanting, IsRefusedRun, IsLowest, refused_stream};
+ghost use Rattle.apply_core.specs.LowerEnded.{LowerHaveEnded};
+ghost use Rattle.apply_core.specs.OneRun.{AllAreIsolated, AllRunAloneOn, DoesntClash, IsDetermined, IsOfAnyOrder};
 ghost use Rattle.apply_core.specs.Shown.{all_rows};
 
 use crate::alone::{run_all, run_named};
 use crate::board::Board;
+use crate::grow_refusal::GrowRefusal;
+use crate::growing::grow_in;
 use crate::policy::Policy;
 use crate::resuming::resume;
-use crate::run_laws::ended_boards_have_the_union;
+use crate::run_laws::{ended_boards_have_the_union, longer_feeds_have_grown};
 use crate::run_refusal::RunRefusal;
 use crate::schedule::{fed_board, fed_replies};
 use board_laws::{
     Answer, Refusal, StepRefusal, agreeing_runs_show_alike, fed_boards_show_all,
+    runs_are_determined, streams_are_isolated, streams_follow_their_own_steps,
     streams_read_their_feeds,
 };
 use checkpoint_laws::ResumeFault;
 use filter_rule::Plan;
 use gtid_set::GtidSet;
-use source_feed::Feed;
+use source_feed::{Feed, FeedEnd};
 use std::alloc::{AllocError, Global};
 use std::marker::Model;
 use std::mem::replace;
@@ -226,6 +233,16 @@ impl<'h> FedBoard<'h> {
         ensures kept { OnErr result (self.new.board ≡ self.old.board) }
         ensures feeds { self.new.feeds ≡ self.old.feeds }
         ensures shows { ShowAll self.new.feeds self.new.board }
+        // Want of memory aside, any run of these steps has these replies and leaves this board; so does one in which
+        // each stream takes the same steps leave it, in whatever order.
+        ensures determined { IfOk result (λ replies. IsDetermined self.old.feeds self.old.board steps.now replies.items self.new.board) }
+        ensures order { IfOk result (λ replies. IsOfAnyOrder self.old.feeds self.old.board steps.now replies.items self.new.board) }
+        // Each stream's own steps can be taken where no other stream has a row, and show it alike; wherever they are
+        // taken so, over whatever other feeds, they do.
+        ensures alone { IfOk result (λ replies. AllRunAloneOn self.old.feeds self.old.board steps.now replies.items self.new.board) }
+        ensures isolated { IfOk result (λ replies. AllAreIsolated self.old.feeds self.old.board steps.now replies.items self.new.board) }
+        // No step is refused for another stream's row where no key is touched in two feeds.
+        ensures disjoint { IfOk result (λ replies. DoesntClash self.old.feeds replies.items) }
         // Laws of lists of steps: in which each stream took the same steps they end in the same board; a stream doesn't
         // notice the others; over feeds that share no key no step is refused 71, and a stream is shown alike in two runs.
         ensures same { SameStepsSameBoard }
@@ -234,6 +251,9 @@ impl<'h> FedBoard<'h> {
         ensures alike { DisjointRunsShowAlike }
     {
         agreeing_runs_show_alike();
+        runs_are_determined();
+        streams_are_isolated();
+        streams_follow_their_own_steps();
         streams_read_their_feeds();
         fed_boards_show_all();
         self.is_fed();
@@ -256,7 +276,8 @@ impl<'h> FedBoard<'h> {
         ensures refused { IfErr result (EndsRun self.old.feeds) }
         // 72 is of a stream's next step, which wants memory on the board as it is left.
         ensures memory { IfErr result (StopsWanting self.new.feeds self.new.board) }
-        // Every lower stream has come to its feed's end.
+        // Every lower stream has come to its feed's end, so all groups of its feed are sound.
+        ensures lower { IfErr result (LowerHaveEnded self.new.feeds self.new.board) }
         ensures lowest { IfErr result (IsLowest self.old.feeds) }
         ensures feeds { self.new.feeds ≡ self.old.feeds }
         ensures shows { ShowAll self.new.feeds self.new.board }
@@ -294,15 +315,44 @@ impl<'h> FedBoard<'h> {
     }
 
     /// The feed of stream `s` becomes one that it has grown to: of the same plan, with the same groups first. The board
-    /// is as it was. Takes no memory.
+    /// is as it was, and shows its sources still: what is applied stands behind the same groups. Takes no memory.
     pub fn put_grown(&mut self, s: u8, feed: Feed<'h>)
         requires there { s < length self.old.feeds }
         requires grown { IfSome (slice_get self.old.feeds s) (λ old. HasGrown old feed) }
         ensures board { self.new.board ≡ self.old.board }
         ensures feeds { self.new.feeds ≡ slice_set self.old.feeds s feed.entry }
+        ensures shows { ShowAll self.new.feeds self.new.board }
     {
         fed_boards_show_all();
         self.is_fed();
         put_feed(&mut self.feeds, s, feed);
+    }
+
+    /// The feed of stream `s` grows by a further piece of its bytes, of which it borrows; `end` is where it ends so far, and
+    /// goes on with it. The answer is how many bytes are taken: up to the last message behind which no transaction is
+    /// open. The rest is given again with more behind it. The board is as it was, and shows its sources still: the groups
+    /// that are there stay the first ones. Takes time linear in the piece's bytes and in the feed's tables.
+    ///
+    /// Refused 115 where there is no such stream, else as `FeedEnd::grow`; then nothing is taken.
+    pub fn grow(
+        &mut self,
+        alloc: Global,
+        s: u8,
+        end: &mut FeedEnd<'h>,
+        piece: &'h [u8],
+    ) -> Result<u32, GrowRefusal>
+        requires { IfSome (slice_get self.old.feeds s) (λ feed. AreOfOneFeed feed end.old) }
+        // The feed then has the groups of all bytes so far, and each other feed is as it was.
+        ensures grown { IfOk result (λ taken. GrowsAt s piece.now taken self.old.feeds self.new.feeds end.old end.new) }
+        ensures board { self.new.board ≡ self.old.board }
+        ensures refused { IfErr result (IsRefusedGrow s piece.now self.old.feeds end.old) }
+        // After a refusal all is as it was.
+        ensures left { OnErr result ((self.new.feeds ≡ self.old.feeds) × (end.new ≡ end.old)) }
+        ensures shows { ShowAll self.new.feeds self.new.board }
+    {
+        fed_boards_show_all();
+        longer_feeds_have_grown();
+        self.is_fed();
+        grow_in(alloc, &mut self.feeds, s, end, piece)
     }
 }

@@ -1,6 +1,7 @@
-//! Laws of boards whose streams have ended, each the contract of a function without a body.
+//! Laws of boards whose streams have ended, and of feeds that grow, each the contract of a function without a body.
 
 ghost use Rattle.apply_core.specs.Ended.{EndedBoardsHaveTheUnion, EndedFeedsAreSound, UnionsAreOne};
+ghost use Rattle.apply_core.specs.Growing.{LongerFeedsHaveGrown};
 
 use pk_copy::keys_tie_where_they_are_equal;
 
@@ -14,3 +15,9 @@ pub fn ended_boards_have_the_union()
 {
     keys_tie_where_they_are_equal();
 }
+
+/// A feed of the same plan that begins with all groups that it had has grown, as `FedBoard::put_grown` asks: those that
+/// were sound come first among its sound groups.
+pub fn longer_feeds_have_grown()
+    ensures { LongerFeedsHaveGrown }
+{}

@@ -12,12 +12,14 @@ ghost use Rattle.board_laws.specs.Sources.{ShowAll};
 ghost use Rattle.apply_core.specs.Ended.{IsFedBoard};
 ghost use Rattle.apply_core.specs.Fresh.{fresh_board};
 ghost use Rattle.apply_core.specs.Feeds.{AreWholeFeeds, AreFed, IsRefusedInput};
+ghost use Rattle.apply_core.specs.OneRun.{AllAreIsolated, AllRunAlone, DoesntClash, IsDetermined, IsOfAnyOrder};
 ghost use Rattle.apply_core.specs.Schedules.{AllAreTaken, AllFollow, RowsAreReplays};
 
 use crate::board::Board;
 use board_laws::{
     Answer, Refusal, StepRefusal, agreeing_runs_show_alike, fed_boards_show_all, rows_are_replayed,
-    streams_follow_their_own_steps, streams_read_their_feeds,
+    runs_are_determined, streams_are_isolated, streams_follow_their_own_steps,
+    streams_read_their_feeds,
 };
 use filter_rule::Plan;
 use source_feed::Feed;
@@ -171,6 +173,16 @@ pub fn run_schedule<'h>(
     ensures own { IfOk result (λ ran. AllAreTaken feeds.now steps.now ran.1.items ran.0) }
     ensures fed { IfOk result (λ _. AreFed (map arc_value plans.items) feeds.now) }
     ensures refused { IfErr result (IsRefusedInput (map arc_value plans.items) feeds.now) }
+    // Want of memory aside, any run of these steps has these replies and leaves this board; so does one in which each
+    // stream takes the same steps leave it, in whatever order.
+    ensures determined { IfOk result (λ ran. IsDetermined feeds.now (fresh_board (map arc_value plans.items)) steps.now ran.1.items ran.0) }
+    ensures order { IfOk result (λ ran. IsOfAnyOrder feeds.now (fresh_board (map arc_value plans.items)) steps.now ran.1.items ran.0) }
+    // Each stream's own steps can be taken alone, and show it alike; wherever they are taken so, over whatever other
+    // feeds, they do.
+    ensures alone { IfOk result (λ ran. AllRunAlone feeds.now (fresh_board (map arc_value plans.items)) steps.now ran.1.items ran.0) }
+    ensures isolated { IfOk result (λ ran. AllAreIsolated feeds.now (fresh_board (map arc_value plans.items)) steps.now ran.1.items ran.0) }
+    // No step is refused for another stream's row where no key is touched in two feeds.
+    ensures disjoint { IfOk result (λ ran. DoesntClash feeds.now ran.1.items) }
     // The laws of lists of steps, as of `Board::take_steps`.
     ensures same { SameStepsSameBoard }
     ensures lone { LoneRunsShowAlike }
@@ -181,6 +193,8 @@ pub fn run_schedule<'h>(
     streams_follow_their_own_steps();
     streams_read_their_feeds();
     rows_are_replayed();
+    runs_are_determined();
+    streams_are_isolated();
     let mut board = fed_board(alloc, plans, feeds)?;
     board.is_lawful();
     let replies = board.take_steps(alloc, feeds, steps)?;

@@ -1,6 +1,8 @@
-use Rattle.std.proofs.Common.{◌≡◌, ◌<◌, ◌^◌, length, Some, slice_get, refl, subst, arith}
+use Rattle.std.proofs.Common.{◌≡◌, ◌<◌, ◌^◌, length, Some, slice_get, refl, ap, subst, arith}
 use Rattle.std.proofs.lemmas.Option.{slice_get_read}
+use Rattle.board_laws.specs.Meaning.{Meaning}
 use Rattle.board_laws.specs.Schedule.{Reply, IsReply}
+use Rattle.board_laws.proofs.Following.{unchanged}
 use Rattle.apply_core.specs.Courses.{LeadsOn, IsAtEnd}
 use Rattle.apply_core.proofs.StreamsThatStandSo.{stream-there, feed-few, stand-within, stand-ended, stand-refused, stand-wants, stand-others, stand-nearer}
 use Rattle.apply_core.proofs.alone.go_on.Goals as goal
@@ -56,3 +58,9 @@ returns-in-Ok-take_fed-clause-nearer c = λ _.
     (subst (λ n. LeadsOn c.in-Ok.at n c.args.course.now.to_copy c.next.new.self.to_copy c.in-Some.step) c.len-groups.ensures c.in-Some.ensures)
     (λ a b. (c.keys_tie_where_they_are_equal.ensures a b).0) c.take_fed.new.self c.in-Ok-take_fed.field-0
     (subst (λ (r : Reply). IsReply c.args.feeds.now c.args.board.now (c.args.s, c.in-Some.step) r c.take_fed.new.self) c.in-Ok-take_fed.is c.take_fed.ensures.reply)
+
+pub returns-in-Err-clause-others : goal.returns-in-Err-clause-others
+returns-in-Err-clause-others c = λ t ne.
+    ap (λ (b : Meaning). slice_get b.streams t)
+    (unchanged c.args.feeds.now c.args.board.now (c.args.s, c.in-Some.step) c.in-Err.refusal c.take_fed.new.self
+    (subst (λ (r : Reply). IsReply c.args.feeds.now c.args.board.now (c.args.s, c.in-Some.step) r c.take_fed.new.self) c.in-Err.is c.take_fed.ensures.reply))

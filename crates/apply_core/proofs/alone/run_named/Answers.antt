@@ -12,8 +12,8 @@ run_stream-requires-clause-there c = c.requires.there c.stream_at.result (c.loop
 pub loop-i-preserved : goal.loop-i-preserved
 loop-i-preserved c = (
   c.run_stream.ensures.fed,
-  named-more c.args.feeds.now c.args.streams.now c.loop-i.board c.run_stream.new.board c.loop-i.i c.stream_at.result c.stream_at.ensures c.loop-i.invariant.1 c.in-Ok.ensures.others c.in-Ok.ensures.ended,
-  unnamed-more c.args.streams.now c.args.board.now c.loop-i.board c.run_stream.new.board c.loop-i.i c.stream_at.result c.stream_at.ensures c.loop-i.invariant.2 c.in-Ok.ensures.others,
+  named-more c.args.feeds.now c.args.streams.now c.loop-i.board c.run_stream.new.board c.loop-i.i c.stream_at.result c.stream_at.ensures c.loop-i.invariant.1 c.run_stream.ensures.others c.in-Ok.ensures.ended,
+  unnamed-more c.args.streams.now c.args.board.now c.loop-i.board c.run_stream.new.board c.loop-i.i c.stream_at.result c.stream_at.ensures c.loop-i.invariant.2 c.run_stream.ensures.others,
 )
 
 pub returns-clause-ended : goal.returns-clause-ended

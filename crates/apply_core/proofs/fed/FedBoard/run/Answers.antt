@@ -3,6 +3,7 @@ use Rattle.source_feed.specs.Planned.{FeedValue}
 use Rattle.std.specs.Prelude.{OnOk, IfErr}
 use Rattle.board_laws.specs.FedBoards.{Fed}
 use Rattle.apply_core.specs.Ended.{IsFedBoard, AllHaveEnded}
+use Rattle.apply_core.specs.LowerEnded.{LowerHaveEnded}
 use Rattle.apply_core.specs.RunRefused.{EndsRun, StopsWanting, IsLowest}
 use Rattle.apply_core.proofs.FedLaws.{on-ok}
 use Rattle.apply_core.proofs.fed.FedBoard.run.Goals as goal
@@ -44,3 +45,6 @@ returns-clause-lowest c =
 
 pub returns-clause-memory : goal.returns-clause-memory
 returns-clause-memory c = subst (λ (fs : List FeedValue). IfErr c.run_all.result (StopsWanting fs c.run_all.new.board)) c.deref.ensures.value c.run_all.ensures.memory
+
+pub returns-clause-lower : goal.returns-clause-lower
+returns-clause-lower c = subst (λ (fs : List FeedValue). IfErr c.run_all.result (LowerHaveEnded fs c.run_all.new.board)) c.deref.ensures.value c.run_all.ensures.lower
