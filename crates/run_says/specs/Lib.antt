@@ -1,0 +1,11 @@
+pub mod RunIsRight
+pub mod Rows
+pub mod Says
+pub mod Filter
+pub mod Transactions
+pub mod Positions
+pub mod Messages
+pub mod Wire
+pub mod Workflow
+pub mod Rules
+pub mod Laws
