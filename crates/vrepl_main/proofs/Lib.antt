@@ -14,6 +14,7 @@ mod ResumeLaws
 mod JoinedLaws
 mod RunLaws
 mod RightLaws
+mod SaidLaws
 mod HandedOnLaws
 mod AtOnceLaws
 mod FollowLaws

@@ -25,6 +25,7 @@ pub mod JoinedRun
 pub mod InputList
 pub mod Running
 pub mod RunIsRight
+pub mod RunSays
 pub mod Ending
 pub mod Followed
 pub mod OnlyFollowed

@@ -18,6 +18,7 @@ ghost use Rattle.vrepl_main.specs.Printing.{PrintsOrBreaks};
 ghost use Rattle.vrepl_main.specs.RefusedText.{refused_text};
 ghost use Rattle.vrepl_main.specs.Running.{IsAtFeedsEnds, IsFilled, IsUnfilled, PrintsDump, RefusesRun, as_step, opened_asked, RunEnds};
 ghost use Rattle.vrepl_main.specs.RunIsRight.{WritesRight};
+ghost use Rattle.vrepl_main.specs.RunSays.{WritesSaid};
 
 use crate::at_once::open_at_once;
 use crate::dump::write_rows;
@@ -33,6 +34,7 @@ use crate::told_run::{run_in_threads, run_in_turn};
 use apply_core::{Board, FedBoard, RunRefusal};
 use board_laws::StepRefusal;
 use filter_rule::Plan;
+use run_says::runs_are_right;
 use source_feed::Feed;
 use std::alloc::Global;
 use std::mem::forget;
@@ -74,7 +76,10 @@ pub fn run<R: Threads + Wait + Sync, G: Progress + Sync, W: Out, E: Out>(
     ensures quiet { result ≡ 0 → err.new ≡ err.old }
     // In bytes alone: with status 0 just the text was written that the workflow and the feeds make.
     ensures right { result ≡ 0 → WritesRight inputs.now (W.written out.old) (W.written out.new) }
+    // The same by what the workflow and the feeds say where they can be read.
+    ensures said { result ≡ 0 → WritesSaid inputs.now (W.written out.old) (W.written out.new) }
 {
+    runs_are_right();
     match print_run(rt, alloc, inputs, gate, out) {
         Ok(()) => 0,
         Err(RunFault::Given(refusal)) => refuse(err, &refusal),
