@@ -86,6 +86,12 @@ class Stream:
         intervals = list(self.groups[0][0].values()) if self.groups else []
         return bool(self.groups) and (len(intervals) != 1 or list(intervals[0]) != [(1, 1)])
 
+    def base_rows(self):
+        """How many rows the first group inserts into the workflow's tables; 0 where it does anything else to one."""
+        names = {table for table, *_ in self.tables}
+        changes = [before for name, before, _ in self.groups[0][1] if name in names]
+        return 0 if any(before is not None for before in changes) else len(changes)
+
     def of_kind(self, why):
         """The lines of the changes that are told for a reason."""
         count, first = counted([it for it in self.findings if it[0] == why])
@@ -93,7 +99,10 @@ class Stream:
         return [why + b" " + it for it in count] + told
 
     def notes(self):
-        noted = [b"starts at " + it for it in self.places[: self.starts_late()]]
+        noted = []
+        if self.starts_late():
+            rows = self.base_rows()
+            noted.append(b"starts at " + self.places[0] + (b" with %d rows" % rows if rows else b""))
         for table, touching, passing, _ in self.tables:
             if not touching:
                 noted.append(b"table %s untouched" % shown(table))
@@ -110,16 +119,23 @@ class Stream:
         warned += [b"skipped " + it for it in count] + [b"skipped message %d %s %s" % it for it in first]
         return [b"warning stream %d %s" % (self.number, it) for it in warned]
 
+    def start(self):
+        """Where the feed starts, if not at the start of its source, and how many rows its base has."""
+        if not self.starts_late():
+            return []
+        rows = self.base_rows()
+        return [item("note", "base" if rows else "starts", "", rows or 1, stream=self.number, position=self.places[0])]
+
     def items(self):
         """All that is told, each kind of each table once, with how many there are of it."""
-        told = [("fault", "no_groups", "", not self.groups), ("note", "starts", "", self.starts_late())]
+        told = [("fault", "no_groups", "", not self.groups)]
         for table, touching, passing, _ in self.tables:
             told += [("note", "untouched", table, not touching), ("note", "no_row", table, bool(touching) and not passing)]
             for why in WHY:
                 count = sum(it[0] == why and it[3] == table for it in self.findings)
                 told.append(("note" if why == b"moved" else "fault", why, table, count))
         told += [("fault", "no_table", one, 1) for one, _ in self.unknown] + [("fault", "skipped", "", len(self.skipped))]
-        return [item(*it, stream=self.number) for it in told if it[-1]]
+        return self.start() + [item(*it, stream=self.number) for it in told if it[-1]]
 
     def as_object(self):
         def found(is_move):
@@ -142,8 +158,9 @@ class Stream:
         }
 
 
-def item(is_class, kind, table, count, stream=None, path=None):
-    return {"class": is_class, "kind": kind, "stream": stream, "table": table or None, "path": path, "count": int(count)}
+def item(is_class, kind, table, count, stream=None, path=None, position=None):
+    said = {"class": is_class, "kind": kind, "stream": stream, "table": table or None, "path": path}
+    return {**said, "position": position, "count": int(count)}
 
 
 def key_parts(key):

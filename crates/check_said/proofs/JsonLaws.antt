@@ -5,7 +5,7 @@ use Rattle.std.proofs.lemmas.List.{drop_more}
 use Rattle.filter_rule.specs.PlanTable.{TableValue}
 use Rattle.json.specs.Print.{escape_byte, quoted, token_text}
 use Rattle.json.specs.Token.{Token}
-use Rattle.serde_json.specs.Data.{Data, string, array, object, no_members, member, no_items, item}
+use Rattle.serde_json.specs.Data.{Data, null, string, array, object, no_members, member, no_items, item}
 use Rattle.serde_json.specs.View.{items_of}
 use Rattle.serde_json.specs.Written.{comma_if, compact_text, items_text}
 use Rattle.source_feed.specs.Image.{ImageRows}
@@ -99,6 +99,23 @@ pub shared-text : (key : Data) (one other : ℕ) (table : List ℕ)
 unfolding escape_byte
 shared-text key one other table =
     ap (λ x. codes "{\"key\":" ++ (compact_text key ++ (codes ",\"streams\":[" ++ x))) (two (decimal one) (decimal other) (codes ",\"table\":" ++ (quoted table ++ (125 ∷ []))))
+
+-- ---- an item of the file
+
+pub note-text : (class kind place : List ℕ) (table : Data)
+    → codes "{\"class\":" ++ (quoted class ++ (codes ",\"count\":" ++ (decimal 1 ++ (codes ",\"kind\":" ++ (quoted kind ++ (codes ",\"path\":" ++ (quoted place ++ (codes ",\"position\":" ++ (codes "null" ++ (codes ",\"stream\":" ++ (codes "null"
+    ++ (codes ",\"table\":" ++ (compact_text table ++ (125 ∷ []))))))))))))))
+    ≡ compact_text
+    (object
+    (member (codes "class") (string class)
+    (member (codes "count") (count_data 1)
+    (member (codes "kind") (string kind)
+    (member (codes "path") (string place)
+    (member (codes "position") null
+    (member (codes "stream") null
+    (member (codes "table") table no_members))))))))
+unfolding escape_byte
+note-text class kind place table = refl
 
 -- ---- lists by their numbers
 

@@ -2,7 +2,9 @@
 use Rattle.std.specs.Prelude.{ℕ, zero, suc, ◌+◌, ◌==◌, ◌&&◌, Bool, List, [], ◌∷◌, ◌++◌, Option, None, Some, codes, length, slice_get, if◌then◌else◌}
 use Rattle.std.specs.List.{count_by, flat_map}
 use Rattle.filter_rule.specs.PlanTable.{TableValue, name_of_table}
+use Rattle.source_feed.specs.GroupValue.{Position}
 use Rattle.source_feed.specs.Touches.{PreparedValue}
+use Rattle.feed_check.specs.Base.{base_rows}
 use Rattle.feed_check.specs.Checked.{CheckedValue, touching, passing_groups}
 use Rattle.feed_check.specs.Findings.{FindingValue}
 use Rattle.feed_check.specs.Report.{is_start, same_why, tables_of, why_text}
@@ -12,13 +14,14 @@ use Rattle.feed_check.specs.declared.finding.Doubt.TheVariants.{NoRow, OtherRow,
 use Rattle.check_said.specs.declared.items.Class.{Class}
 use Rattle.check_said.specs.declared.items.Class.TheVariants.{Fault, Note}
 
--- what is told of a stream's feed: whether it is a fault, of which kind, the table, empty where it is of none, and how many
--- there are of it
+-- what is told of a stream's feed: whether it is a fault, of which kind, the table, empty where it is of none, the position
+-- where it says one, and how many there are of it
 pub record ItemValue : Type 0 where
   pub class : Class
   pub kind : List ℕ
   pub stream : ℕ
   pub table : List ℕ
+  pub position : Option Position
   pub count : ℕ
 
 -- an item, where there is any of it
@@ -26,7 +29,7 @@ abbrev pub item_if : ItemValue → List ItemValue
 item_if item = if item.count == 0 then [] else item ∷ []
 
 abbrev pub in_stream : ℕ → Class → List ℕ → List ℕ → ℕ → List ItemValue
-in_stream i class kind table count = item_if (record { class = class; kind = kind; stream = i; table = table; count = count })
+in_stream i class kind table count = item_if (record { class = class; kind = kind; stream = i; table = table; position = None; count = count })
 
 -- one, where there is nothing of what there has to be
 abbrev pub none_of : ℕ → ℕ
@@ -37,11 +40,6 @@ none_of (suc n) = 0
 abbrev pub passes_none : ℕ → ℕ → ℕ
 passes_none zero m = 0
 passes_none (suc n) m = none_of m
-
--- one, where the first group isn't at the start of its source
-abbrev pub starts_late : Option PreparedValue → ℕ
-starts_late None = 0
-starts_late (Some group) = if is_start group.position then 0 else 1
 
 -- how many changes of a table are told for a reason
 abbrev pub is_told : Doubt → ℕ → FindingValue → Bool
@@ -71,9 +69,19 @@ tables_items i check t (table ∷ later) = table_items i check t table.name ++ t
 abbrev pub names_items : ℕ → List (List ℕ) → List ItemValue
 names_items i names = flat_map (λ name. in_stream i Fault (codes "no_table") name 1) names
 
+-- where a feed starts, and how many rows its base has, if it begins with one
+abbrev pub start_item : ℕ → Position → ℕ → ItemValue
+start_item i position zero = record { class = Note; kind = codes "starts"; stream = i; table = []; position = Some position; count = 1 }
+start_item i position (suc n) = record { class = Note; kind = codes "base"; stream = i; table = []; position = Some position; count = suc n }
+
+-- the same of its first group, where that isn't at the start of its source
+abbrev pub start_items : ℕ → Option PreparedValue → List ItemValue
+start_items i None = []
+start_items i (Some group) = if is_start group.position then [] else start_item i group.position (base_rows group) ∷ []
+
 -- what is told of all groups: that there is none, or where they start
 abbrev pub groups_items : ℕ → CheckedValue → List ItemValue
-groups_items i check = in_stream i Fault (codes "no_groups") [] (none_of (length check.history)) ++ in_stream i Note (codes "starts") [] (starts_late (slice_get check.history 0))
+groups_items i check = in_stream i Fault (codes "no_groups") [] (none_of (length check.history)) ++ start_items i (slice_get check.history 0)
 
 -- what is told beside the tables: names, and events that are passed over
 abbrev pub other_items : ℕ → CheckedValue → List ItemValue

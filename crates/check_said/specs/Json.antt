@@ -10,6 +10,7 @@ use Rattle.serde_json.specs.Data.{Data, null, boolean, number, string, array, ob
 use Rattle.serde_json.specs.View.{items_of}
 use Rattle.serde_json.specs.Written.{compact_text}
 use Rattle.shown_text.specs.Shown.{shown}
+use Rattle.source_feed.specs.GroupValue.{Position}
 use Rattle.source_feed.specs.Image.{ImageRows}
 use Rattle.source_feed.specs.Touches.{PreparedValue}
 use Rattle.feed_check.specs.Checked.{CheckedValue, touching, passing_groups, rows_of_table}
@@ -149,6 +150,11 @@ passed_data passed =
 
 -- ---- all that is told
 
+-- a position; null where none is said
+abbrev pub position_or_null : Option Position → Data
+position_or_null None = null
+position_or_null (Some position) = string (printed_position position)
+
 abbrev pub class_word : Class → List ℕ
 class_word Fault = codes "fault"
 class_word Note = codes "note"
@@ -161,8 +167,9 @@ item_data told =
     (member (codes "count") (count_data told.count)
     (member (codes "kind") (string told.kind)
     (member (codes "path") null
+    (member (codes "position") (position_or_null told.position)
     (member (codes "stream") (count_data told.stream)
-    (member (codes "table") (table_or_null told.table) no_members)))))
+    (member (codes "table") (table_or_null told.table) no_members))))))
     )
 
 abbrev pub note_class : Flaw → Class
@@ -175,8 +182,9 @@ note_item note =
     (member (codes "count") (count_data 1)
     (member (codes "kind") (string (flaw_word note.flaw))
     (member (codes "path") (string note.place)
+    (member (codes "position") null
     (member (codes "stream") null
-    (member (codes "table") (table_or_null note.table) no_members)))))
+    (member (codes "table") (table_or_null note.table) no_members))))))
     )
 
 -- the items of the streams, and behind them those of the file

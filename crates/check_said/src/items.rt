@@ -1,13 +1,16 @@
 //! All that is told of feeds, as items of one list.
 
-ghost use Rattle.std.specs.Prelude.{◌≡◌, ◌++◌, IfOk, OnOk, map};
+ghost use Rattle.std.specs.Prelude.{◌≡◌, ◌++◌, [], Some, IfOk, OnOk, map};
 ghost use Rattle.std.specs.Option.{option_copied};
-ghost use Rattle.check_said.specs.Items.{changes_items, groups_items, in_stream, item_if, items_with, names_items, none_of, other_items, passes_none, shared_items, starts_late, stream_items, streams_items, table_items, tables_items, told_of};
+ghost use Rattle.check_said.specs.declared.items.Class.TheVariants.{Note};
+ghost use Rattle.check_said.specs.Items.{changes_items, groups_items, in_stream, item_if, items_with, names_items, none_of, other_items, passes_none, shared_items, start_item, start_items, stream_items, streams_items, table_items, tables_items, told_of};
 
 use feed_check::{
-    Checked, Doubt, Finding, SharedKey, is_start, name_of_table, same_why, tables_of, why_text,
+    Checked, Doubt, Finding, SharedKey, base_rows, is_start, name_of_table, same_why, tables_of,
+    why_text,
 };
 use filter_rule::Table;
+use gtid_set::GtidSet;
 use source_feed::Prepared;
 use std::alloc::{AllocError, Global};
 use std::marker::Model;
@@ -22,22 +25,24 @@ pub enum Class {
 }
 
 /// What is told of a stream's feed: whether it is a fault, of which kind, the stream's number, the table, empty where it is
-/// of none, and how many there are of it.
+/// of none, the position where it says one, and how many there are of it.
 #[derive(Drop)]
 pub(crate) struct Item<'c> {
     class: Class,
     kind: &'static str,
     stream: usize,
     table: &'c str,
+    position: Option<&'c GtidSet>,
     count: usize,
 }
 
 impl<'c> Model for Item<'c> {
+    ghost use Rattle.std.specs.Option.{option_copied};
     ghost use Rattle.check_said.specs.Items.{ItemValue};
 
     ghost Value = { ItemValue };
 
-    ghost view = { λ i. record { class = i.class; kind = i.kind.now; stream = i.stream; table = i.table.now; count = i.count } };
+    ghost view = { λ i. record { class = i.class; kind = i.kind.now; stream = i.stream; table = i.table.now; position = option_copied i.position; count = i.count } };
 }
 
 impl<'c> Item<'c> {
@@ -67,6 +72,13 @@ impl<'c> Item<'c> {
         ensures { result.now ≡ self.now.table }
     {
         self.table
+    }
+
+    /// The position, where it says one.
+    pub(crate) fn position(&self) -> Option<&'c GtidSet>
+        ensures { option_copied result ≡ self.now.position }
+    {
+        self.position
     }
 
     /// How many there are of it.
@@ -105,6 +117,7 @@ fn push_in<'c>(
             kind,
             stream,
             table,
+            position: None,
             count,
         },
     )
@@ -122,16 +135,6 @@ fn passes_none(touching: usize, passing: usize) -> usize
     ensures { result ≡ passes_none touching passing }
 {
     if touching == 0 { 0 } else { none_of(passing) }
-}
-
-/// One, where the first group isn't at the start of its source.
-fn starts_late(group: Option<&Prepared<'_>>) -> usize
-    ensures { result ≡ starts_late (option_copied group.entry) }
-{
-    match group {
-        None => 0,
-        Some(group) => { if is_start(group.position()) { 0 } else { 1 } }
-    }
 }
 
 /// How many changes of table `t` are told for a reason.
@@ -236,6 +239,48 @@ fn push_names<'c>(
     Ok(())
 }
 
+/// A feed's start of this kind, of which there are so many.
+fn start_of<'c>(i: usize, kind: &'static str, position: &'c GtidSet, count: usize) -> Item<'c>
+    ensures { result ≡ record { class = Note; kind = kind.entry.now; stream = i; table = []; position = Some position.entry.now; count = count } }
+{
+    Item {
+        class: Class::Note,
+        kind,
+        stream: i,
+        table: "",
+        position: Some(position),
+        count,
+    }
+}
+
+/// Where a feed starts, and how many rows its base has, if it begins with one.
+fn start_item<'c>(i: usize, position: &'c GtidSet, rows: usize) -> Item<'c>
+    ensures { result ≡ start_item i position.entry.now rows }
+{
+    if rows == 0 {
+        start_of(i, "starts", position, 1)
+    } else {
+        start_of(i, "base", position, rows)
+    }
+}
+
+/// Puts where a stream's feed starts behind others, unless its first group is at the start of its source.
+fn push_start<'c>(
+    told: &mut Vec<Item<'c>>,
+    i: usize,
+    first: Option<&'c Prepared<'_>>,
+) -> Result<(), AllocError>
+    ensures { OnOk result (told.new.items ≡ told.old.items ++ start_items i (option_copied first.entry)) }
+{
+    if let Some(group) = first {
+        let position = group.position();
+        if !is_start(position) {
+            told.push(start_item(i, position, base_rows(group)))?;
+        }
+    }
+    Ok(())
+}
+
 /// Puts what is told of all groups of a stream behind others: that there is none, or where they start.
 fn push_groups<'c>(
     told: &mut Vec<Item<'c>>,
@@ -245,9 +290,8 @@ fn push_groups<'c>(
     ensures { OnOk result (told.new.items ≡ told.old.items ++ groups_items i check.entry.now) }
 {
     let none = none_of(check.len());
-    let late = starts_late(check.group(0));
     push_in(told, i, Class::Fault, "no_groups", "", none)?;
-    push_in(told, i, Class::Note, "starts", "", late)?;
+    push_start(told, i, check.group(0))?;
     Ok(())
 }
 

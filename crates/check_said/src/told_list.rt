@@ -1,13 +1,15 @@
 //! All that is told, as one list of JSON.
 
 ghost use Rattle.std.specs.Prelude.{◌≡◌};
+ghost use Rattle.std.specs.Option.{option_copied};
 ghost use Rattle.serde_json.specs.Written.{compact_text};
-ghost use Rattle.json_pieces.specs.Pieces.{pieces_text};
+ghost use Rattle.json_pieces.specs.Pieces.{piece_text, pieces_text};
 ghost use Rattle.json_pieces.specs.Telling.{Tells, at};
-ghost use Rattle.check_said.specs.Json.{class_word, item_data, note_class, note_item, told_data};
+ghost use Rattle.check_said.specs.Json.{class_word, item_data, note_class, note_item, position_or_null, told_data};
 
 use crate::file_notes::{flaw_word, table_piece};
 use crate::items::{Class, Item};
+use gtid_set::GtidSet;
 use json_pieces::{Line, Piece, put_comma_if, put_pieces};
 use vdiff_core::Out;
 use workflow_check::{Flaw, Note};
@@ -33,9 +35,19 @@ fn note_class(flaw: Flaw) -> Class
     }
 }
 
+/// A position, null where none is said.
+fn place_piece(position: Option<&GtidSet>) -> Piece<'_>
+    ensures { piece_text result ≡ compact_text (position_or_null (option_copied position.entry)) }
+{
+    match position {
+        None => Piece::Text("null"),
+        Some(position) => Piece::Position(position),
+    }
+}
+
 /// An item of a stream.
 #[tactic(auto, unfolding(json::specs::Print::escape_byte))]
-fn item_pieces<'p>(item: &'p Item<'_>) -> [Piece<'p>; 13]
+fn item_pieces<'p>(item: &'p Item<'_>) -> [Piece<'p>; 15]
     ensures { pieces_text result ≡ compact_text (item_data item.entry.now) }
 {
     [
@@ -47,6 +59,8 @@ fn item_pieces<'p>(item: &'p Item<'_>) -> [Piece<'p>; 13]
         Piece::Name(item.kind()),
         Piece::Text(",\"path\":"),
         Piece::Text("null"),
+        Piece::Text(",\"position\":"),
+        place_piece(item.position()),
         Piece::Text(",\"stream\":"),
         Piece::Number(item.stream() as u64),
         Piece::Text(",\"table\":"),
@@ -64,7 +78,7 @@ fn put_item<O: Out>(out: &mut O, line: &mut Line, item: &Item<'_>)
 
 /// An item of the file.
 #[tactic(auto, unfolding(json::specs::Print::escape_byte))]
-fn note_pieces(note: &Note) -> [Piece<'_>; 13]
+fn note_pieces(note: &Note) -> [Piece<'_>; 15]
     ensures { pieces_text result ≡ compact_text (note_item note.entry.now) }
 {
     [
@@ -76,6 +90,8 @@ fn note_pieces(note: &Note) -> [Piece<'_>; 13]
         Piece::Name(flaw_word(note.flaw())),
         Piece::Text(",\"path\":"),
         Piece::Name(note.place()),
+        Piece::Text(",\"position\":"),
+        Piece::Text("null"),
         Piece::Text(",\"stream\":"),
         Piece::Text("null"),
         Piece::Text(",\"table\":"),

@@ -1,6 +1,6 @@
 -- What stands where no line of a warning is told.
 use Rattle.std.proofs.Common.{◌≡◌, ◌≢◌, ◌↔◌, ◌∙◌, ℕ, zero, suc, ◌+◌, ◌<◌, ◌≤◌, arith, Bool, true, false, cond, List, [], ◌∷◌, ◌++◌, length, Option, Some, None, refl, sym, ap, subst}
-use Rattle.std.specs.Prelude.{◌==◌, ◌&&◌, ◌||◌, IfSome, IsSomeAnd, codes, is_some}
+use Rattle.std.specs.Prelude.{◌==◌, ◌&&◌, ◌||◌, IfSome, IsSomeAnd, is_some}
 use Rattle.std.specs.List.{AllByRecursion, Any, count_by, filter, flat_map, list_any}
 use Rattle.std.specs.Option.{option_and_then, option_to_list}
 use Rattle.std.specs.Ordering.{eq_by_cmp}
@@ -17,7 +17,6 @@ use Rattle.filter_rule.specs.PlanValue.{PlanValue, table_of_name}
 use Rattle.pk_copy.specs.KeyOrder.{key_cmp}
 use Rattle.pk_copy.specs.KeyOrderLaws.{key_cmp_total}
 use Rattle.pk_copy.specs.KeyValue.{KeyValue}
-use Rattle.gtid_set.specs.Printed.{printed_position}
 use Rattle.proto_wire.specs.Parts.{parts, scalar, text}
 use Rattle.vdiff_core.specs.Report.{row_eq}
 use Rattle.source_feed.specs.GroupValue.{Position, TableChangeValue, GroupValue}
@@ -28,7 +27,7 @@ use Rattle.feed_check.specs.Clean.{IsStart, PutsPassing, HasPassingRow, IsNamed,
 use Rattle.feed_check.specs.Findings.{FindingValue, told, why_before, why_after, why_moved, has_key, found_before, found_after, found_moved, findings_in, moves_of}
 use Rattle.feed_check.specs.KeyedChanges.{KeyedRowValue, KeyedChangeValue}
 use Rattle.feed_check.specs.Replay.{row_left}
-use Rattle.feed_check.specs.Report.{warning, note, change_line, groups_warning, table_note, table_notes, is_start, start_note, name_warnings, skipped_warnings, same_why, of_kind, kind_lines, told_lines, change_warnings, has_some}
+use Rattle.feed_check.specs.Report.{warning, note, change_line, groups_warning, table_note, table_notes, is_start, start_note, start_text, name_warnings, skipped_warnings, same_why, of_kind, kind_lines, told_lines, change_warnings, has_some}
 use Rattle.feed_check.specs.Skipped.{SkippedValue, is_skipped, skipped_at, skipped_in, skipped_from}
 use Rattle.feed_check.specs.Unknown.{is_known, with_name, unknown_in, unknown_behind}
 use Rattle.feed_check.specs.declared.finding.Doubt.{Doubt}
@@ -91,7 +90,7 @@ start-none i None = (λ _. tt, λ _. refl)
 start-none i (Some group) = by (is_start group.position) refl
   where
     line : List ℕ
-    line = codes "starts at " ++ printed_position group.position
+    line = start_text group
 
     is : (b : Bool) → is_start group.position ≡ b → start_note i (Some group) ≡ cond b [] (note i line)
     is b e = ap (λ (t : Bool). cond t [] (note i line)) e

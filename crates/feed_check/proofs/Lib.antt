@@ -7,3 +7,4 @@ pub mod SharedLaws
 pub mod UnknownLaws
 pub mod CleanLaws
 pub mod CleanFeeds
+pub mod BaseLaws

@@ -3,6 +3,7 @@ pub mod Replay
 pub mod Findings
 pub mod Skipped
 pub mod Unknown
+pub mod Base
 pub mod Checked
 pub mod Shared
 pub mod Report

@@ -1,6 +1,6 @@
 -- The text of a check, stream by stream: lines of what there is, behind them all notes, and behind these all warnings. A
 -- warning is of a fault, a note of what may well be so. Names of files, shards and tables are as they are shown (this profile).
-use Rattle.std.specs.Prelude.{ℕ, zero, suc, ◌+◌, ◌-◌, ◌==◌, is_some, map, if◌then◌else◌, List, [], ◌∷◌, ◌++◌, Bool, true, false, Option, Some, None, length, take, codes, decimal, slice_get, unwrap_or}
+use Rattle.std.specs.Prelude.{ℕ, zero, suc, ◌+◌, ◌-◌, ◌==◌, is_some, if◌then◌else◌, List, [], ◌∷◌, ◌++◌, Bool, true, false, Option, Some, None, length, take, codes, decimal, slice_get, unwrap_or}
 use Rattle.std.specs.List.{after_first, filter, flat_map}
 use Rattle.hex.specs.Hex.{encode_lower}
 use Rattle.gtid_set.specs.Printed.{printed_position}
@@ -11,6 +11,7 @@ use Rattle.pk_copy.specs.Lastpk.{part_text}
 use Rattle.shown_text.specs.Shown.{shown}
 use Rattle.source_feed.specs.GroupValue.{Position}
 use Rattle.source_feed.specs.Touches.{PreparedValue}
+use Rattle.feed_check.specs.Base.{base_rows}
 use Rattle.feed_check.specs.Checked.{CheckedValue, touching, passing_groups, rows_of_table}
 use Rattle.feed_check.specs.Findings.{FindingValue}
 use Rattle.feed_check.specs.Shared.{SharedValue, shared_of}
@@ -105,10 +106,19 @@ abbrev pub is_start : Position → Bool
 is_start (first ∷ []) = first.last == 1
 is_start _ = false
 
+-- so many rows of a base, if it is one
+abbrev pub base_text : ℕ → List ℕ
+base_text zero = []
+base_text (suc n) = codes " with " ++ decimal (suc n) ++ codes " rows"
+
+-- where a feed starts: the position of its first group, and of a base how many rows it has
+abbrev pub start_text : PreparedValue → List ℕ
+start_text group = codes "starts at " ++ printed_position group.position ++ base_text (base_rows group)
+
 -- the first group's position isn't the start of its source
 abbrev pub start_note : ℕ → Option PreparedValue → List ℕ
 start_note i None = []
-start_note i (Some group) = if is_start group.position then [] else note i (codes "starts at " ++ printed_position group.position)
+start_note i (Some group) = if is_start group.position then [] else note i (start_text group)
 
 -- behind the first dot of a name, where that is a table's
 abbrev pub nearest_text : PlanValue → List ℕ → List ℕ

@@ -7,6 +7,7 @@ ghost use Rattle.std.specs.String.{string_bytes};
 ghost use Rattle.shown_text.specs.Shown as said;
 ghost use Rattle.feed_check.specs.Report.{is_start, kind_text, name_warnings, nearest_text, skipped_count, skipped_head, skipped_lines, skipped_text, skipped_warnings, start_note};
 
+use crate::base::start_text;
 use crate::skipped::Skipped;
 use crate::warnings::{TOLD, push_note, push_warning};
 use filter_rule::Plan;
@@ -25,7 +26,7 @@ pub fn is_start(position: &GtidSet) -> bool
     }
 }
 
-/// Puts the note that a feed doesn't begin at the start of its source behind a text, where it doesn't.
+/// Puts the note where a feed starts behind a text, unless it is at the start of its source.
 pub(crate) fn push_start_note(
     alloc: Global,
     i: usize,
@@ -37,9 +38,8 @@ pub(crate) fn push_start_note(
     let Some(group) = group else {
         return Ok(());
     };
-    let position = group.position();
-    if !is_start(position) {
-        let noted = format!(in alloc; "starts at {position}")?;
+    if !is_start(group.position()) {
+        let noted = start_text(alloc, group)?;
         push_note(alloc, i, &noted, text)?;
     }
     Ok(())

@@ -1,6 +1,7 @@
 //! Laws of what is told.
 
 ghost use Rattle.std.specs.Prelude.{◌≡◌, ◌↔◌, List, [], reverse};
+ghost use Rattle.feed_check.specs.Base.{BasesAreTold};
 ghost use Rattle.feed_check.specs.Clean.{FaultlessFeedsNeverClash, TellsUnlessClean, WarnsUnlessFaultless};
 ghost use Rattle.feed_check.specs.KeyedChanges.{KeyedChangeValue};
 ghost use Rattle.feed_check.specs.Checked.{CheckedValue};
@@ -14,6 +15,12 @@ use pk_copy::keys_tie_where_they_are_equal;
 /// Nothing is told of changes exactly where each of them is true of the rows that those before it leave.
 pub fn nothing_is_found_where_all_are_true()
     ensures { (changes : List KeyedChangeValue) → (findings_of changes ≡ []) ↔ AreTrue (reverse changes) }
+{}
+
+/// So many rows are told of the group that a feed begins with exactly where it is a base of so many: no change of it to the
+/// plan's tables has a row before, and so many have a row after.
+pub fn bases_are_told()
+    ensures { BasesAreTold }
 {}
 
 /// Nothing is told of keys that two feeds touch exactly where there is none; else the least of them, and two streams

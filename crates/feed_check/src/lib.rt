@@ -2,6 +2,7 @@
 //! the feed leaves, names of no table, and events that are passed over though they may change rows.
 #![tactic(auto)]
 
+mod base;
 mod before_images;
 mod checked;
 mod feed_warnings;
@@ -21,6 +22,7 @@ mod skipped;
 mod unknown;
 mod warnings;
 
+pub use base::base_rows;
 pub use before_images::findings_of;
 pub use checked::{Checked, check_feed, check_feeds};
 pub use feed_warnings::{behind_dot, is_start, kind_text};
@@ -28,7 +30,7 @@ pub use finding::{Doubt, Finding};
 pub use key_text::part_text;
 pub use last_rows::rows_of_table;
 pub use laws::{
-    checks_warn_unless_feeds_are_faultless, faultless_feeds_never_clash,
+    bases_are_told, checks_warn_unless_feeds_are_faultless, faultless_feeds_never_clash,
     nothing_is_found_where_all_are_true, the_least_key_of_two_feeds_is_told,
 };
 pub use moves::moves_of;
