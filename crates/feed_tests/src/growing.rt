@@ -97,7 +97,7 @@ fn is_as_wanted(
     }
 }
 
-/// The feed is as wanted, cut at every byte into two pieces and into three.
+/// The feed is as wanted, cut at every byte into two pieces, and behind it at every so many bytes into three.
 fn is_wanted_however_cut(
     alloc: Global,
     bytes: &[u8],
@@ -126,7 +126,7 @@ fn is_wanted_however_cut(
 fn one_row_cut_at_every_byte(rt: HostRuntime) {
     assert!(rt;
         matches!(
-            is_wanted_however_cut(rt.alloc(), ONE_ROW, &Wanted::Whole, 1),
+            is_wanted_however_cut(rt.alloc(), ONE_ROW, &Wanted::Whole, 5),
             Ok(true)
         )
     );
@@ -136,7 +136,7 @@ fn one_row_cut_at_every_byte(rt: HostRuntime) {
 fn three_groups_cut_at_every_byte(rt: HostRuntime) {
     assert!(rt;
         matches!(
-            is_wanted_however_cut(rt.alloc(), THREE_GROUPS, &Wanted::Whole, 7),
+            is_wanted_however_cut(rt.alloc(), THREE_GROUPS, &Wanted::Whole, 97),
             Ok(true)
         )
     );
@@ -150,7 +150,7 @@ const ONE_EVENT_A_MESSAGE: &[u8] =
 fn one_event_a_message_cut_at_every_byte(rt: HostRuntime) {
     assert!(rt;
         matches!(
-            is_wanted_however_cut(rt.alloc(), ONE_EVENT_A_MESSAGE, &Wanted::Whole, 1),
+            is_wanted_however_cut(rt.alloc(), ONE_EVENT_A_MESSAGE, &Wanted::Whole, 5),
             Ok(true)
         )
     );
@@ -164,7 +164,7 @@ const OPEN_AT_ITS_END: &[u8] =
 fn open_transaction_is_not_taken(rt: HostRuntime) {
     assert!(rt;
         matches!(
-            is_wanted_however_cut(rt.alloc(), OPEN_AT_ITS_END, &Wanted::CutShort(47), 1),
+            is_wanted_however_cut(rt.alloc(), OPEN_AT_ITS_END, &Wanted::CutShort(47), 5),
             Ok(true)
         )
     );
@@ -182,7 +182,7 @@ fn position_that_does_not_grow_across_pieces(rt: HostRuntime) {
                 rt.alloc(),
                 DIVERGED,
                 &Wanted::Refused(FeedFault::Diverged(3)),
-                1
+                5
             ),
             Ok(true)
         )
@@ -201,7 +201,7 @@ fn field_that_differs_later(rt: HostRuntime) {
                 rt.alloc(),
                 DIFFERS_LATER,
                 &Wanted::Refused(FeedFault::FieldsDiffer),
-                1
+                5
             ),
             Ok(true)
         )
