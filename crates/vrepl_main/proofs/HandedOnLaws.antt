@@ -14,7 +14,6 @@ use Rattle.board_laws.specs.Meaning.{Meaning, State}
 use Rattle.board_laws.specs.Reading.{HasFeed}
 use Rattle.board_laws.specs.Sources.{ShowAll}
 use Rattle.join_laws.specs.Compatible.{plans_of_board}
-use Rattle.checkpoint_laws.specs.Written.{checkpoint_of}
 use Rattle.checkpoint_laws.proofs.RestartedLaws.{same_at_places}
 use Rattle.checkpoint_laws.proofs.ResumedLaws.{at_same_place}
 use Rattle.apply_core.specs.Shown.{all_rows}
@@ -24,7 +23,7 @@ use Rattle.vrepl_choices.specs.UntilValue.{UntilValue, until_value}
 use Rattle.vrepl_choices.specs.declared.feed_form.FeedForm.{FeedForm}
 use Rattle.feed_ends.specs.EndedFeeds.{AreEnded, IsEndedBy}
 use Rattle.feed_ends.specs.Positions.{text_for}
-use Rattle.vrepl_main.specs.CheckpointIsRight.{FollowsOnlyRight, FollowsRight, MakesCheckpoint, ShowsAt, WritesCheckpoint}
+use Rattle.vrepl_main.specs.CheckpointIsRight.{FollowsOnlyRight, FollowsRight, MakesJoined, MakesSaved, ShowsAt, WritesJoined, WritesSaved}
 use Rattle.vrepl_main.specs.Ending.{opened_until}
 use Rattle.vrepl_main.specs.Followed.{FollowedValue, IsFollowed, follow_asked, saved_asked}
 use Rattle.vrepl_main.specs.Given.{given_value}
@@ -95,43 +94,59 @@ whole_until workflow given found says = record { says = says.says; whole = found
 
 -- ---- `save` and `join`
 
--- the checkpoint of a board over whole feeds
-makes_checkpoint : (form : FeedForm) (workflow : List ℕ) (given : List (List ℕ)) (found : OpenedValue) (board : Meaning) (bytes : List ℕ) → opened form workflow given ≡ Ok found
-    → IsFedBoard found.feeds board → ShowAll found.feeds board → bytes ≡ checkpoint_of board → MakesCheckpoint form workflow given bytes
-makes_checkpoint form workflow given found board bytes e fed sources is =
-    let all : List (Option (List ℕ)) = map (feed_bytes form) given in
-    let says : SaysUntil workflow all [] found = whole_until workflow all found (says_whole workflow all found e) in (
-      says.fed.bytes,
-      says.fed.are,
-      record { opened = found.feeds; board = board; shows = shows_until workflow all [] found says board fed sources; checkpoint = is },
-    )
+-- whole feeds in this form, with the workflow under which they are opened
+says_given : (form : FeedForm) (workflow : List ℕ) (given : List (List ℕ)) (found : OpenedValue) → opened form workflow given ≡ Ok found → SaysUntil workflow (map (feed_bytes form) given) [] found
+says_given form workflow given found e = whole_until workflow (map (feed_bytes form) given) found (says_whole workflow (map (feed_bytes form) given) found e)
 
-pub makes_saved : (inputs : Inputs) (saved : Saved) → IsSavedBoard (script_asked inputs) saved → MakesCheckpoint inputs.feed_form inputs.workflow.items (bytes_of inputs.feeds.items) saved.checkpoint.items
+pub makes_saved : (inputs : Inputs) (saved : Saved) → IsSavedBoard (script_asked inputs) saved → MakesSaved inputs saved.checkpoint.items
+unfolding shows_until
 makes_saved inputs saved is = by (opened inputs.feed_form inputs.workflow.items (bytes_of inputs.feeds.items)) refl is
   where
-    of_steps : (found : OpenedValue) → opened inputs.feed_form inputs.workflow.items (bytes_of inputs.feeds.items) ≡ Ok found → (rs : Result (List ScriptStep) Reason)
-        → IsSavedBoard (rs >>= λ steps. Ok (record { opened = found; steps = steps })) saved → MakesCheckpoint inputs.feed_form inputs.workflow.items (bytes_of inputs.feeds.items) saved.checkpoint.items
-    of_steps found e (Err reason) is = absurd is
-    of_steps found e (Ok steps) (is, many) = makes_checkpoint inputs.feed_form inputs.workflow.items (bytes_of inputs.feeds.items) found is.board saved.checkpoint.items e is.fed is.sources is.checkpoint
+    of_steps : (found : OpenedValue) → opened inputs.feed_form inputs.workflow.items (bytes_of inputs.feeds.items) ≡ Ok found → (rs : Result (List ScriptStep) ℕ) → script_steps inputs.script.items ≡ rs
+        → IsSavedBoard (said_steps rs >>= λ steps. Ok (record { opened = found; steps = steps })) saved → MakesSaved inputs saved.checkpoint.items
+    of_steps found e (Err line) lines is = absurd is
+    of_steps found e (Ok steps) lines (is, many) =
+        let says : SaysUntil inputs.workflow.items (map (feed_bytes inputs.feed_form) (bytes_of inputs.feeds.items)) [] found = says_given inputs.feed_form inputs.workflow.items (bytes_of inputs.feeds.items) found e in (
+          says.fed.bytes,
+          says.fed.are,
+          record {
+            opened = found.feeds;
+            board = is.board;
+            shows = shows_until inputs.workflow.items (map (feed_bytes inputs.feed_form) (bytes_of inputs.feeds.items)) [] found says is.board is.fed is.sources;
+            steps = steps;
+            lines = lines;
+            refused = saved.refused;
+            behind = (is.replies, is.run, is.told, is.counted);
+            checkpoint = is.checkpoint;
+          },
+        )
 
-    by : (r : Result OpenedValue Reason) → opened inputs.feed_form inputs.workflow.items (bytes_of inputs.feeds.items) ≡ r → IsSavedBoard (r >>= given_with inputs.script.items) saved
-        → MakesCheckpoint inputs.feed_form inputs.workflow.items (bytes_of inputs.feeds.items) saved.checkpoint.items
+    by : (r : Result OpenedValue Reason) → opened inputs.feed_form inputs.workflow.items (bytes_of inputs.feeds.items) ≡ r → IsSavedBoard (r >>= given_with inputs.script.items) saved → MakesSaved inputs saved.checkpoint.items
     by (Err reason) e is = absurd is
-    by (Ok found) e is = of_steps found e (said_steps (script_steps inputs.script.items)) is
+    by (Ok found) e is = of_steps found e (script_steps inputs.script.items) refl is
 
-pub writes_saved : (inputs : Inputs) (saved : Saved) (old new : Written) → IsSavedBoard (script_asked inputs) saved → IsWritten old new saved.checkpoint.items
-    → WritesCheckpoint inputs.feed_form inputs.workflow.items (bytes_of inputs.feeds.items) old new
+pub writes_saved : (inputs : Inputs) (saved : Saved) (old new : Written) → IsSavedBoard (script_asked inputs) saved → IsWritten old new saved.checkpoint.items → WritesSaved inputs old new
 writes_saved inputs saved old new is written = (saved.checkpoint.items, makes_saved inputs saved is, written)
 
-pub makes_joined : (inputs : JoinInputs) (bytes : List ℕ) → IsSavedJoin (join_asked inputs) inputs.one.items (bytes_of inputs.others.items) bytes
-    → MakesCheckpoint inputs.feed_form inputs.workflow.items (bytes_of inputs.feeds.items) bytes
+pub makes_joined : (inputs : JoinInputs) (bytes : List ℕ) → IsSavedJoin (join_asked inputs) inputs.one.items (bytes_of inputs.others.items) bytes → MakesJoined inputs bytes
 makes_joined inputs bytes is = by (join_asked inputs) refl is
   where
-    by : (r : Result OpenedValue Reason) → join_asked inputs ≡ r → IsSavedJoin r inputs.one.items (bytes_of inputs.others.items) bytes → MakesCheckpoint inputs.feed_form inputs.workflow.items (bytes_of inputs.feeds.items) bytes
+    by : (r : Result OpenedValue Reason) → join_asked inputs ≡ r → IsSavedJoin r inputs.one.items (bytes_of inputs.others.items) bytes → MakesJoined inputs bytes
     by (Err reason) e is = absurd is
-    by (Ok found) e (board, join, saved) = makes_checkpoint inputs.feed_form inputs.workflow.items (bytes_of inputs.feeds.items) found board bytes e join.fed join.sources saved
+    by (Ok found) e (board, join, saved) =
+        let says : SaysUntil inputs.workflow.items (map (feed_bytes inputs.feed_form) (bytes_of inputs.feeds.items)) [] found = says_given inputs.feed_form inputs.workflow.items (bytes_of inputs.feeds.items) found e in (
+          says.fed.bytes,
+          says.fed.are,
+          record {
+            opened = found.feeds;
+            board = board;
+            shows = shows_until inputs.workflow.items (map (feed_bytes inputs.feed_form) (bytes_of inputs.feeds.items)) [] found says board join.fed join.sources;
+            join = join.is_join;
+            checkpoint = saved;
+          },
+        )
 
-pub writes_joined : (inputs : JoinInputs) (old new : Written) → PrintsJoin inputs old new → WritesCheckpoint inputs.feed_form inputs.workflow.items (bytes_of inputs.feeds.items) old new
+pub writes_joined : (inputs : JoinInputs) (old new : Written) → PrintsJoin inputs old new → WritesJoined inputs old new
 writes_joined inputs old new (bytes, is, written) = (bytes, makes_joined inputs bytes is, written)
 
 -- ---- `follow`

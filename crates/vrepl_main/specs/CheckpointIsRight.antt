@@ -11,16 +11,23 @@ use Rattle.board_laws.specs.Sources.{ShowAll}
 use Rattle.join_laws.specs.Compatible.{plans_of_board}
 use Rattle.checkpoint_laws.specs.Written.{checkpoint_of}
 use Rattle.apply_core.specs.Ended.{AllHaveEnded, AreAsBefore, HaveEnded}
+use Rattle.apply_core.specs.Fresh.{fresh_board}
 use Rattle.apply_core.specs.Shown.{all_rows}
+use Rattle.step_script.specs.ScriptLines.{script_steps}
+use Rattle.step_script.specs.declared.script.ScriptStep.{ScriptStep}
 use Rattle.vrepl_choices.specs.UntilValue.{UntilValue, until_value}
-use Rattle.vrepl_choices.specs.declared.feed_form.FeedForm.{FeedForm}
 use Rattle.feed_ends.specs.EndedFeeds.{AreEnded}
 use Rattle.vrepl_main.specs.Followed.{FollowedValue, saved_asked}
 use Rattle.vrepl_main.specs.Given.{given_value}
 use Rattle.vrepl_main.specs.HexText.{feed_bytes}
+use Rattle.vrepl_main.specs.InputList.{bytes_of}
+use Rattle.vrepl_main.specs.JoinedRun.{AreJoined}
 use Rattle.vrepl_main.specs.OnlyFollowed.{IsStart}
 use Rattle.vrepl_main.specs.RunIsRight.{AreOpened, RunIsRight}
+use Rattle.vrepl_main.specs.SavedBoard.{IsBehind}
 use Rattle.vrepl_main.specs.declared.named_inputs.FollowInputs.{FollowInputs}
+use Rattle.vrepl_main.specs.declared.named_inputs.Inputs.{Inputs}
+use Rattle.vrepl_main.specs.declared.named_inputs.JoinInputs.{JoinInputs}
 
 -- ---- a board
 
@@ -38,11 +45,25 @@ pub record ShowsAt (workflow : List ℕ) (feeds : List (List ℕ)) (until : List
 
 -- ---- its checkpoint
 
--- the bytes are the checkpoint of such a board
-pub record CheckpointIsRight (workflow : List ℕ) (feeds : List (List ℕ)) (until : List UntilValue) (bytes : List ℕ) : Type 0 where
+-- The script says steps; the board is such a one, and the one behind these steps from the beginning on, whatever they reply
+-- but want of memory: so each stream stands where its steps leave it. The bytes are its checkpoint.
+pub record SaveIsRight (workflow : List ℕ) (feeds : List (List ℕ)) (script : List ℕ) (bytes : List ℕ) : Type 0 where
   pub opened : List FeedValue
   pub board : Meaning
-  pub shows : ShowsAt workflow feeds until opened board
+  pub shows : ShowsAt workflow feeds [] opened board
+  pub steps : List ScriptStep
+  pub lines : script_steps script ≡ Ok steps
+  pub refused : ℕ
+  pub behind : IsBehind opened (fresh_board shows.plans) steps refused board
+  pub checkpoint : bytes ≡ checkpoint_of board
+
+-- The board is such a one, and the join of the boards that the checkpoints make with the feeds: so each stream stands as on
+-- the board that is furthest on in it. The bytes are its checkpoint.
+pub record JoinIsRight (workflow : List ℕ) (feeds : List (List ℕ)) (one : List ℕ) (others : List (List ℕ)) (bytes : List ℕ) : Type 0 where
+  pub opened : List FeedValue
+  pub board : Meaning
+  pub shows : ShowsAt workflow feeds [] opened board
+  pub join : AreJoined opened one others board
   pub checkpoint : bytes ≡ checkpoint_of board
 
 -- The board is such a one, and its streams stand at the feeds' ends: all groups that are there are read and applied, and all
@@ -68,13 +89,24 @@ pub record OnlyIsRight (workflow : List ℕ) (feeds : List (List ℕ)) (until : 
 
 -- ---- what a command hands on
 
--- whole feeds in this form, decoded where they are given as hexadecimal text, make this checkpoint
-abbrev pub MakesCheckpoint : FeedForm → List ℕ → List (List ℕ) → List ℕ → Type 0
-MakesCheckpoint form workflow given bytes = (feeds : List (List ℕ)) × (map (feed_bytes form) given ≡ map Some feeds) × CheckpointIsRight workflow feeds [] bytes
+-- the feeds' bytes, decoded where they are given as hexadecimal text, make this checkpoint behind the script
+abbrev pub MakesSaved : Inputs → List ℕ → Type 0
+MakesSaved inputs bytes =
+    (feeds : List (List ℕ)) × (map (feed_bytes inputs.feed_form) (bytes_of inputs.feeds.items) ≡ map Some feeds) × SaveIsRight inputs.workflow.items feeds inputs.script.items bytes
 
 -- they make one, and just this was written
-abbrev pub WritesCheckpoint : FeedForm → List ℕ → List (List ℕ) → Written → Written → Type 0
-WritesCheckpoint form workflow given old new = (bytes : List ℕ) × MakesCheckpoint form workflow given bytes × IsWritten old new bytes
+abbrev pub WritesSaved : Inputs → Written → Written → Type 0
+WritesSaved inputs old new = (bytes : List ℕ) × MakesSaved inputs bytes × IsWritten old new bytes
+
+-- the feeds' bytes make this checkpoint of the join of checkpoints
+abbrev pub MakesJoined : JoinInputs → List ℕ → Type 0
+MakesJoined inputs bytes =
+    (feeds : List (List ℕ)) × (map (feed_bytes inputs.feed_form) (bytes_of inputs.feeds.items) ≡ map Some feeds)
+    × JoinIsRight inputs.workflow.items feeds inputs.one.items (bytes_of inputs.others.items) bytes
+
+-- they make one, and just this was written
+abbrev pub WritesJoined : JoinInputs → Written → Written → Type 0
+WritesJoined inputs old new = (bytes : List ℕ) × MakesJoined inputs bytes × IsWritten old new bytes
 
 -- the feeds' bytes make this board with its checkpoint
 abbrev pub FollowsRight : FollowInputs → FollowedValue → Type 0

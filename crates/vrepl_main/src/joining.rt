@@ -1,7 +1,7 @@
 //! The subcommand `join`: the checkpoint of the join of two checkpoints' boards.
 
 ghost use Rattle.std.specs.Prelude.{◌≡◌, OnOk, IfErr, IfOk};
-ghost use Rattle.vrepl_main.specs.CheckpointIsRight.{MakesCheckpoint, WritesCheckpoint};
+ghost use Rattle.vrepl_main.specs.CheckpointIsRight.{MakesJoined, WritesJoined};
 ghost use Rattle.vrepl_main.specs.InputList.{bytes_of};
 ghost use Rattle.vrepl_main.specs.JoinedRun.{IsJoinOver, IsSavedJoin, IsUnjoined, PrintsJoin, RefusesJoin, join_refusal_line, join_asked, JoinEnds, IsUnjoinedOver};
 ghost use Rattle.vrepl_main.specs.OpenedFeeds.{opened_value, HasPlans, IsFirstOf};
@@ -80,8 +80,8 @@ pub fn join<M: Meter, W: Out, E: Out>(
 ) -> u8
     ensures ends { JoinEnds inputs.now result (W.written out.old) (W.written out.new) (E.written err.old) (E.written err.new) }
     ensures quiet { result ≡ 0 → err.new ≡ err.old }
-    // In bytes alone: with status 0 just a checkpoint was written that the workflow and the feeds make.
-    ensures right { result ≡ 0 → WritesCheckpoint inputs.now.feed_form inputs.now.workflow.items (bytes_of inputs.now.feeds.items) (W.written out.old) (W.written out.new) }
+    // In bytes alone: with status 0 just the join was written that the workflow, the feeds and the checkpoints make.
+    ensures right { result ≡ 0 → WritesJoined inputs.now (W.written out.old) (W.written out.new) }
 {
     match print_joined(alloc, inputs, meter, out) {
         Ok(()) => 0,
@@ -127,8 +127,8 @@ pub fn joined_checkpoint<M: Meter>(
 ) -> Result<Vec<u8>, Unjoined>
     ensures saved { IfOk result (λ bytes. IsSavedJoin (join_asked inputs.now) inputs.now.one.items (bytes_of inputs.now.others.items) bytes.items) }
     ensures refused { IfErr result (λ refusal. IsUnjoined refusal (join_asked inputs.now) inputs.now.one.items (bytes_of inputs.now.others.items)) }
-    // In bytes alone: it is one that the workflow and the feeds make.
-    ensures right { IfOk result (λ bytes. MakesCheckpoint inputs.now.feed_form inputs.now.workflow.items (bytes_of inputs.now.feeds.items) bytes.items) }
+    // In bytes alone: it is the join that the workflow, the feeds and the checkpoints make.
+    ensures right { IfOk result (λ bytes. MakesJoined inputs.now bytes.items) }
 {
     let feeds = inputs.feeds.len();
     meter.begins(inputs.others.len().saturating_add(3).saturating_mul(feeds));

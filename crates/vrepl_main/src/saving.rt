@@ -7,8 +7,7 @@ ghost use Rattle.filter_rule.specs.WellFormed.{ArePlans};
 ghost use Rattle.vrepl_main.specs.OpenedFeeds.{scripted_value};
 ghost use Rattle.board_laws.specs.FedBoards.{IsFedBoard};
 ghost use Rattle.board_laws.specs.Sources.{ShowAll};
-ghost use Rattle.vrepl_main.specs.CheckpointIsRight.{MakesCheckpoint, WritesCheckpoint};
-ghost use Rattle.vrepl_main.specs.InputList.{bytes_of};
+ghost use Rattle.vrepl_main.specs.CheckpointIsRight.{MakesSaved, WritesSaved};
 ghost use Rattle.vrepl_main.specs.ScriptRun.{ScriptReply, answers, IsScriptStep, IsTold, refused_count, script_asked, standing_in, standing_reply};
 ghost use Rattle.vdiff_core.specs.Printing.{IsWritten, Prints};
 ghost use Rattle.vrepl_main.specs.Adding.{AddsText, at};
@@ -65,8 +64,8 @@ pub fn save<W: Out, E: Out>(
     ensures status { result ≤ 1 }
     ensures ends { SaveEnds strict (script_asked inputs.now) result (W.written out.old) (W.written out.new) (E.written err.old) (E.written err.new) }
     ensures quiet { strict ≡ true → result ≡ 0 → err.new ≡ err.old }
-    // In bytes alone: with status 0 just a checkpoint was written that the workflow and the feeds make.
-    ensures right { result ≡ 0 → WritesCheckpoint inputs.now.feed_form inputs.now.workflow.items (bytes_of inputs.now.feeds.items) (W.written out.old) (W.written out.new) }
+    // In bytes alone: with status 0 just a checkpoint was written that the workflow and the feeds make behind the script.
+    ensures right { result ≡ 0 → WritesSaved inputs.now (W.written out.old) (W.written out.new) }
 {
     match print_checkpoint(alloc, inputs, out) {
         Ok(saved) => tell_refused(err, &saved, strict),
@@ -93,8 +92,8 @@ fn print_checkpoint<W: Out>(
 pub fn saved_checkpoint(alloc: Global, inputs: &Inputs) -> Result<Saved, CommandRefusal<'static>>
     ensures saved { IfOk result (IsSavedBoard (script_asked inputs.now)) }
     ensures refused { IfErr result (λ refusal. RefusesInputs refusal (script_asked inputs.now)) }
-    // In bytes alone: it is one that the workflow and the feeds make.
-    ensures right { IfOk result (λ saved. MakesCheckpoint inputs.now.feed_form inputs.now.workflow.items (bytes_of inputs.now.feeds.items) saved.checkpoint.items) }
+    // In bytes alone: it is one that the workflow and the feeds make behind the script.
+    ensures right { IfOk result (λ saved. MakesSaved inputs.now saved.checkpoint.items) }
 {
     let given = given_feeds(alloc, inputs.feed_form, &inputs.feeds)?;
     let scripted = open_scripted(alloc, inputs, &given)?;
