@@ -73,7 +73,7 @@ uint32_t vrepl_key_ranges_tile(const uint8_t *ranges, size_t ranges_length, bool
 uint32_t vrepl_key_range_holds(const uint8_t *range, size_t range_length, const uint8_t *id, size_t id_length, bool *holds);
 
 /* The keyspace id of a value, which is NULL or bytes, into the room; under a vindex by its name, `numeric`, `reverse_bits`,
- * `binary`, `binary_md5` or another one that a workflow may name. Refused: 42 for a name that no vindex has, 43 for NULL,
+ * `binary`, `binary_md5` or `hash`. Refused: 42 for a name that no vindex has, 43 for NULL,
  * 44 for a value that is no number from 0 to 2^64 - 1 under a vindex of numbers. Takes no memory. */
 uint32_t vrepl_vindex_id(const uint8_t *vindex, size_t vindex_length, bool is_null, const uint8_t *value, size_t value_length,
                          uint8_t *room, size_t room_length, size_t *length);

@@ -296,7 +296,7 @@ def each_change_is_noticed(room):
         (gone, SOURCE, NO_TOOLCHAIN),
         (renamed, SOURCE, NO_TOOLCHAIN),
         (one_more, "crates/vrepl/src/other.rt", NO_TOOLCHAIN),
-        (one_more, "crates/outcome/proofs/Other.antt", NO_TOOLCHAIN),
+        (one_more, "crates/list_laws/proofs/Other.antt", NO_TOOLCHAIN),
         (longer, "HANDLES", NO_TOOLCHAIN),
         (gone, "crates.txt", "crates.txt"),
         (older_byte, CARRIED, NOT_THE_NAMED),
@@ -379,7 +379,7 @@ def checkout_without_dist_builds(room):
     with open(os.path.join(place, "out/build.figures"), encoding="utf-8") as file:
         head, _, *rows = file.read().splitlines()
     names = [row.split("|")[1].strip() for row in rows]
-    if head != "| Crate | Proof |" or names != sorted({*names, "vrepl", "vrepl_main", "outcome"}) or "vrepl_c" in names:
+    if head != "| Crate | Proof |" or names != sorted({*names, "vrepl", "vrepl_main", "list_laws"}) or "vrepl_c" in names:
         fault = fault or f"out/build.figures has {', '.join(names)} under {head}"
     return fault
 

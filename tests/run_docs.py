@@ -233,6 +233,29 @@ def further_faults():
         missing = (it for it in sorted(have - set(paths)) if WHOLE.match(it) and not it.startswith(tuple(below)))
         yield from (f"a further {kind}: {it} isn't in the list" for it in missing)
 
+# What names all vindexes, column types or events, beside the files in which the compiler asks for a case each.
+ALL_VINDEXES = """crates/vindex/src/vindexes.rt crates/workflow_check/src/passing.rt crates/tiles_said/src/shares.rt
+    crates/workflow_places/src/filter_form.rt crates/plan_tests/src/ranges.rt include/vrepl.h docs/FORMATS.md
+    record/recorder/filters.py tests/model/workflow.py tests/model/random_workflow.py tests/model/limits.py tests/library/same.py""".split()
+ALL_TYPES = "bindings/python/vrepl/feed.py docs/FORMATS.md record/recorder/kinds.py tests/model/workflow.py".split()
+ALL_EVENTS = "docs/FORMATS.md record/recorder/wire.py".split()
+
+
+def kind_faults():
+    """What the one list of a kind has (vindexes, column types, events) and a file that names all of them doesn't, or by another number."""
+    vindexes = re.findall(r'^vindex_name \w+ = codes "(\w+)"', text_of("crates", "vindex", "specs", "KeyspaceId.antt"), re.M)
+    types = re.findall(r'named_type \(codes "(\w+)"\) (\d+)', text_of("crates", "filter_rule", "specs", "TypeNumbers.antt"))
+    events = re.findall(r"if n == (\d+) then Some (?:\(Ignored )?(\w+)", text_of("crates", "vevent", "specs", "Kind.antt"))
+    yield from (f"the list of {what} isn't found" for what, found in (("vindexes", vindexes), ("types", types), ("events", events)) if len(found) < 5)
+    wanted = [(path, name, rf"[\"'`]{name}[\"'`]") for path in ALL_VINDEXES for name in vindexes]
+    wanted += [(path, f"{name} {number}", rf"\b{name}\W{{1,8}}{number}\b") for path in ALL_TYPES for name, number in types]
+    wanted += [(path, f"{name.upper()} {number}", rf"\b{name.upper()} (?:= )?{number}\b") for path in ALL_EVENTS for number, name in events]
+    texts = {path: text_of(*path.split("/")) for path, _, _ in wanted}
+    yield from (f"{path} lacks {what}" for path, what, form in wanted if not re.search(form, texts[path]))
+    numbers = re.search(r"^TYPES = \{([\d, ]+)\}", text_of("tests", "model", "wire.py"), re.M)
+    if not numbers or set(numbers[1].split(", ")) != {number for number, _ in events}:
+        yield "tests/model/wire.py has other types of events"
+
 
 CHAPTER = re.compile(r"""([\w./]*\w\.md)\)?,? \(?(?:'((?:[^'\n]|'(?=\w)){3,80})'|"([^"\n]{3,80})")""")
 
@@ -364,7 +387,7 @@ def is_released():
 
 def main():
     failed = 0
-    checks = {"docs/MAP.md": map_faults, "docs/DEFINITIONS.md": definition_faults, "docs/PROMISES.md": promise_faults, "docs/THEOREM.md": theorem_faults, "contracts": contract_faults, "paths": path_faults, "chapters": chapter_faults, "docs/MAP.md, to add something": further_faults, "explain": explanation_faults, "quotations": quotation_faults, "figures": figure_faults, "large pages": setting_faults, "examples/first_change.patch": first_change_faults}
+    checks = {"docs/MAP.md": map_faults, "docs/DEFINITIONS.md": definition_faults, "docs/PROMISES.md": promise_faults, "docs/THEOREM.md": theorem_faults, "contracts": contract_faults, "paths": path_faults, "chapters": chapter_faults, "docs/MAP.md, to add something": further_faults, "one list of a kind": kind_faults, "explain": explanation_faults, "quotations": quotation_faults, "figures": figure_faults, "large pages": setting_faults, "examples/first_change.patch": first_change_faults}
     if is_released():
         checks["pages"] = page_faults
     for name, check in checks.items():

@@ -12,7 +12,7 @@ use Rattle.stream_core.specs.declared.step.Step.TheVariants.{Offer, Advance, Ope
 use Rattle.stream_core.specs.Standing.{is_open_at}
 use Rattle.stream_core.specs.Rows.{first_standing, NoneStands}
 use Rattle.stream_core.specs.StepTable.{row_of}
-use Rattle.outcome.specs.Outcome.{◌>>=◌}
+use Rattle.list_laws.specs.Outcome.{◌>>=◌}
 use Rattle.source_feed.specs.declared.fault.FeedFault.{FeedFault}
 use Rattle.source_feed.specs.GroupOrder.{IsProperPart}
 use Rattle.source_feed.specs.GroupValue.{Position}

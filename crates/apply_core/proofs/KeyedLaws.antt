@@ -13,8 +13,8 @@ use Rattle.pk_copy.specs.KeyValue.{KeyValue}
 use Rattle.source_feed.specs.History.{RowValue}
 use Rattle.source_feed.specs.Image.{ImageRows}
 use Rattle.source_feed.specs.Planned.{FeedValue}
-use Rattle.vdiff_core.specs.Report.{IsFirstDifference}
-use Rattle.vdiff_core.proofs.ReportLaws.{IsSameSoFar}
+use Rattle.vdiff.specs.Report.{IsFirstDifference}
+use Rattle.vdiff.proofs.ReportLaws.{IsSameSoFar}
 use Rattle.board_laws.specs.Lawful.{IsSoundState}
 use Rattle.board_laws.specs.Meaning.{State}
 use Rattle.board_laws.proofs.Lookups.{Ties, all-at}

@@ -28,8 +28,8 @@ use Rattle.source_feed.specs.SoundGroups.{sound_groups, AreFirst, StopsBefore}
 use Rattle.source_feed.specs.Touches.{PreparedValue}
 use Rattle.source_feed.proofs.PositionLaws.{one_number}
 use Rattle.vevent.specs.CheckpointPart.{StreamPartValue}
-use Rattle.vdiff_core.specs.Report.{IsFirstDifference}
-use Rattle.vdiff_core.proofs.ReportLaws.{IsSameSoFar, stops_at_source, stops_at_target, stops_at_rows, same_for_longer, rest_of_source, rest_of_target}
+use Rattle.vdiff.specs.Report.{IsFirstDifference}
+use Rattle.vdiff.proofs.ReportLaws.{IsSameSoFar, stops_at_source, stops_at_target, stops_at_rows, same_for_longer, rest_of_source, rest_of_target}
 use Rattle.board_laws.specs.Cut.{cut_of}
 use Rattle.board_laws.specs.KeptRows.{passed_rows, kept_row}
 use Rattle.board_laws.specs.Laws.{PassedRowsAreOneList}

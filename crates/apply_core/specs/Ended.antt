@@ -6,7 +6,7 @@ use Rattle.pk_copy.specs.KeyValue.{KeyValue}
 use Rattle.stream_core.specs.declared.phase.Phase.TheVariants.{Running}
 use Rattle.stream_core.specs.Standing.{phase_of}
 use Rattle.target_tables.specs.Rising.{IsRising}
-use Rattle.vdiff_core.specs.DumpRowsValue.{DumpRowsValue, row_with_key}
+use Rattle.dump.specs.DumpRowsValue.{DumpRowsValue, row_with_key}
 use Rattle.source_feed.specs.History.{KeptRow, kept_at}
 use Rattle.source_feed.specs.Planned.{FeedValue}
 use Rattle.source_feed.specs.SoundGroups.{sound_groups}

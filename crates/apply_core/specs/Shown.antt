@@ -1,8 +1,8 @@
 -- What a board shows of its streams and of the rows of its target (this profile).
 use Rattle.std.specs.Prelude.{ℕ, ◌==◌}
 use Rattle.std.specs.List.{filter}
-use Rattle.vdiff_core.specs.DumpRowsValue.{DumpRowsValue}
-pub use Rattle.vdiff_core.specs.DumpRowsValue.{unowned, all_rows}
+use Rattle.dump.specs.DumpRowsValue.{DumpRowsValue}
+pub use Rattle.dump.specs.DumpRowsValue.{unowned, all_rows}
 use Rattle.board_laws.specs.Meaning.{TargetRows}
 
 -- the rows of stream s, by rising key

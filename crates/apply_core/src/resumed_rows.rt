@@ -9,7 +9,7 @@ ghost use Rattle.target_tables.specs.Rising.{IsRising};
 ghost use Rattle.source_feed.specs.History.{kept_of};
 ghost use Rattle.source_feed.specs.Image.{lent_row};
 ghost use Rattle.board_laws.specs.Meaning.{State};
-ghost use Rattle.vdiff_core.specs.Report.{IsFirstDifference};
+ghost use Rattle.vdiff.specs.Report.{IsFirstDifference};
 ghost use Rattle.join_laws.specs.Joined.{cut_rows};
 ghost use Rattle.checkpoint_laws.specs.Resumed.{AgreesWith, AtEachPlace};
 ghost use Rattle.checkpoint_laws.specs.Refused.{IsLeastDifference};

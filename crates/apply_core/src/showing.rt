@@ -11,12 +11,12 @@ ghost use Rattle.apply_core.specs.Shown.{all_rows, rows_of_stream};
 use crate::board::Board;
 use crate::stream::Stream;
 use board_laws::Refusal;
+use dump::DumpRows;
 use gtid_set::GtidSet;
 use pk_copy::{Key, Mark};
 use row_view::RowBuf;
 use std::alloc::{AllocError, Global};
 use target_tables::Tables;
-use vdiff_core::DumpRows;
 
 /// Copies of all rows. An error is want of memory.
 fn copies_of_all(alloc: Global, rows: &Tables<Key, RowBuf>) -> Result<DumpRows, AllocError>

@@ -10,7 +10,7 @@ use Rattle.std.specs.Option.{option_or, option_map, option_map_or, option_and_th
 use Rattle.std.specs.Result.{result_ok}
 use Rattle.list_laws.proofs.Fronts.{front_of}
 use Rattle.list_laws.proofs.Places.{one_longer}
-use Rattle.outcome.specs.Outcome.{◌>>=◌}
+use Rattle.list_laws.specs.Outcome.{◌>>=◌}
 use Rattle.filter_rule.specs.PlanValue.{PlanValue}
 use Rattle.pk_copy.specs.KeyOrder.{key_cmp}
 use Rattle.pk_copy.specs.KeyValue.{KeyValue}

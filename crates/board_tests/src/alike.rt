@@ -1,11 +1,11 @@
 //! Streams of two boards beside each other: their numbers, marks, positions and rows.
 
 use apply_core::Board;
+use dump::DumpRows;
 use pk_copy::Mark;
 use std::alloc::{AllocError, Global};
 use std::cmp::Ordering;
 use stream_core::Cursor;
-use vdiff_core::DumpRows;
 
 /// How far on a mark is beside another one of the same table, which isn't done: up to a key is further than none.
 pub(crate) fn order_of_marks(one: Mark<'_>, other: Mark<'_>) -> Ordering {

@@ -3,11 +3,12 @@
 ghost use Rattle.std.specs.Prelude.{Some};
 
 use apply_core::Board;
+use dump::{DumpRows, write_dump, write_target_dump};
+use printing::{Out, OutFailed};
 use row_view::Column;
 use source_feed::Feed;
 use std::alloc::{AllocError, Global};
 use stream_core::{Cursor, Phase};
-use vdiff_core::{DumpRows, Out, OutFailed, write_dump, write_target_dump};
 
 /// A stream's phase, how many groups are read and applied, the open snapshot and how many tables are done.
 pub(crate) type Stand = (Phase, u32, u32, Option<u32>, u8);

@@ -12,7 +12,7 @@ use Rattle.source_feed.specs.Image.{ImageRows}
 use Rattle.feed_check.specs.Checked.{CheckedValue, touching, passing_groups, rows_of_table}
 use Rattle.feed_check.specs.Report.{file_name}
 use Rattle.feed_check.specs.Shared.{SharedValue}
-use Rattle.vdiff_core.specs.Printing.{Written}
+use Rattle.printing.specs.Printing.{Written}
 use Rattle.workflow_check.specs.Notes.{NoteValue}
 use Rattle.workflow_check.specs.Passed.{PassedValue}
 use Rattle.json_pieces.specs.Telling.{LineValue, Place, Tells, at, fresh}

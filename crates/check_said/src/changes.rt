@@ -11,8 +11,8 @@ ghost use Rattle.check_said.specs.Json.{finding_data, position_data, skipped_dat
 use feed_check::{Checked, Finding, Skipped, group_of, kind_text, name_of_table, why_text};
 use json_pieces::{Line, Piece, put_comma_if, put_pieces};
 use pk_copy::KeyPart;
+use printing::Out;
 use source_feed::Prepared;
-use vdiff_core::Out;
 
 /// A group's position, null where there is no such group.
 pub(crate) fn position_piece<'p>(group: Option<&'p Prepared<'_>>) -> Piece<'p>

@@ -7,7 +7,7 @@ ghost use Rattle.json_pieces.specs.Telling.{Tells, at};
 ghost use Rattle.check_said.specs.Json.{flaw_word, note_data, passed_data, table_or_null};
 
 use json_pieces::{Line, Piece, put_comma_if, put_pieces};
-use vdiff_core::Out;
+use printing::Out;
 use workflow_check::{Flaw, Note, Passed};
 
 /// The word for why a note is told.

@@ -2,15 +2,15 @@
 
 ghost use Rattle.std.specs.Prelude.{◌≡◌, IfOk, map};
 ghost use Rattle.std.specs.Option.{option_copied};
-ghost use Rattle.vdiff_core.specs.Printing.{Prints};
+ghost use Rattle.printing.specs.Printing.{Prints};
 ghost use Rattle.feed_check.specs.Report.{check_report_of};
 ghost use Rattle.check_said.specs.Said.{are_noted, are_warned, line_or, said_of, with_file};
 
 use crate::told::CheckJson;
 use feed_check::{CheckReport, Checked};
+use printing::{Out, OutFailed, put_all};
 use std::alloc::{AllocError, Global};
 use std::marker::Model;
-use vdiff_core::{Out, OutFailed, put_all};
 use vrepl_choices::ReportForm;
 use workflow_check::{Note, note_lines, notes_of, rules_of};
 

@@ -17,7 +17,7 @@ use feed_check::{Checked, SharedKey, file_name, name_of_table};
 use filter_rule::Table;
 use json_pieces::{Line, Piece, put_comma_if, put_pieces};
 use pk_copy::KeyPart;
-use vdiff_core::Out;
+use printing::Out;
 
 /// What stands before the findings of a stream.
 fn first_pieces(file: &str) -> [Piece<'_>; 3]

@@ -10,7 +10,7 @@ use crate::checked_rows::CheckedRows;
 use feed_check::behind_dot;
 use filter_rule::Plan;
 use json_pieces::{Line, Piece, put_comma_if, put_pieces};
-use vdiff_core::Out;
+use printing::Out;
 
 /// A table of a stream: its counts and its name.
 #[tactic(auto, unfolding(json::specs::Print::escape_byte))]

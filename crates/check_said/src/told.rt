@@ -3,7 +3,7 @@
 ghost use Rattle.std.specs.Prelude.{◌≡◌, IfOk, map};
 ghost use Rattle.std.specs.Option.{option_copied};
 ghost use Rattle.serde_json.specs.Written.{compact_text};
-ghost use Rattle.vdiff_core.specs.Printing.{Prints};
+ghost use Rattle.printing.specs.Printing.{Prints};
 ghost use Rattle.feed_check.specs.Report.{tables_of};
 ghost use Rattle.feed_check.specs.Shared as feeds;
 ghost use Rattle.workflow_check.specs.File as file;
@@ -22,9 +22,9 @@ use crate::told_list::put_told;
 use feed_check::{Checked, SharedKey, shared_of, tables_of};
 use filter_rule::Table;
 use json_pieces::Line;
+use printing::{Out, OutFailed};
 use std::alloc::{AllocError, Global};
 use std::marker::Model;
-use vdiff_core::{Out, OutFailed};
 use workflow_check::{Note, Passed, notes_of, passed_of};
 
 /// What `check` says as one line of JSON: all that the lines say, and of what is told all, not the first ten of a kind.

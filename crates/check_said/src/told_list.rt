@@ -11,7 +11,7 @@ use crate::file_notes::{flaw_word, table_piece};
 use crate::items::{Class, Item};
 use gtid_set::GtidSet;
 use json_pieces::{Line, Piece, put_comma_if, put_pieces};
-use vdiff_core::Out;
+use printing::Out;
 use workflow_check::{Flaw, Note};
 
 /// The word for a class.

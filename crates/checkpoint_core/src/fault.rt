@@ -4,13 +4,16 @@ ghost use Rattle.checkpoint_core.specs.declared.fault.ReadFault.TheVariants.{Mem
 ghost use Rattle.std.specs.Prelude.{◌≡◌};
 
 use std::alloc::AllocError;
+use thiserror::Error;
 
 /// Why bytes aren't read as a checkpoint.
-#[derive(Clone, Copy, Debug)]
+#[derive(Clone, Copy, Debug, Error)]
 pub enum ReadFault {
     /// The bytes are no checkpoint for these plans.
+    #[error("no checkpoint for these plans")]
     Broken,
     /// A growth was refused.
+    #[error("out of memory")]
     Memory,
 }
 

@@ -221,9 +221,6 @@ head_is name rows one two three four five text row_event number body event respo
 pub joined-push : (messages : List (List ℕ)) (message : List ℕ) → joined (messages ++ message ∷ []) ≡ joined messages ++ message
 joined-push messages message = flat_map-append (λ (m : List ℕ). m) messages (message ∷ []) ∙ ap (λ (w : List ℕ). joined messages ++ w) (append-nil message)
 
-pub fields-push : (rows : List RowValue) (row : RowValue) → change_fields (rows ++ row ∷ []) ≡ change_fields rows ++ change_field row
-fields-push rows row = flat_map-append change_field rows (row ∷ []) ∙ ap (λ (w : List ℕ). change_fields rows ++ w) (append-nil (change_field row))
-
 -- what one is written as that comes first, and what those behind it are
 pub first-left : {X : Type 0} (written : X → List ℕ) (xs : List X) (i : ℕ) (x : X) → i < length xs → x ≡ get_or xs i x → flat_map written (drop i xs) ≡ written x ++ flat_map written (drop (i + 1) xs)
 first-left written xs i x within is = ap (flat_map written) (drop_more xs i x within) ∙ ap (λ y. written y ++ flat_map written (drop (i + 1) xs)) (sym is)

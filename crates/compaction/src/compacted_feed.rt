@@ -1,16 +1,16 @@
 //! A compacted feed before it is written.
 
 ghost use Rattle.std.specs.Prelude.{◌≡◌, ◌<◌, ◌++◌, ◌^◌, IfOk, length};
-ghost use Rattle.vdiff_core.specs.Printing.{Prints};
+ghost use Rattle.printing.specs.Printing.{Prints};
 ghost use Rattle.compaction.specs.Private.Sized.{joined};
 
 use crate::fault::WriteFault;
 use crate::portion::{Portion, put_portions, size_of_portions};
 use json_pieces::Line;
+use printing::{Out, OutFailed};
 use proto_wire::size_of_both;
 use source_feed::FEED_BYTES;
 use std::marker::Model;
-use vdiff_core::{Out, OutFailed};
 
 /// A compacted feed, which is written piece by piece: its rows and what stands behind its base are lent from the old feed's
 /// bytes, and no piece is made before it is written. Seen in contracts as its bytes, fewer than 2^31.

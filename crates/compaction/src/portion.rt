@@ -7,13 +7,13 @@ ghost use Rattle.compaction.specs.Private.Sized.{change_fields, inserts_message,
 
 use crate::sized_row::SizedRow;
 use json_pieces::Line;
+use printing::Out;
 use proto_wire::{
     bytes_field_size, number_field_size, put_bytes_head, put_number, put_text, put_varint,
     size_of_both, text_field_size,
 };
 use std::alloc::{AllocError, Global};
 use std::marker::Model;
-use vdiff_core::Out;
 
 /// The number of a ROW event's type.
 const ROW: u64 = 12;

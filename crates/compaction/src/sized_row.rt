@@ -9,9 +9,9 @@ use crate::fault::WriteFault;
 use crate::sizes::{held_size, is_within, number_of, packed_size, row_size, sizes_of, value_of};
 use crate::varint::put_number;
 use json_pieces::Line;
+use printing::Out;
 use row_view::{ROW_BYTES, RowBytes};
 use std::marker::Model;
-use vdiff_core::Out;
 
 /// The tag of a field that holds a change, a row behind it, or a row's values.
 const HELD: u8 = 18;

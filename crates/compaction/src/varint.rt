@@ -5,7 +5,7 @@ ghost use Rattle.proto_wire.specs.Varint.{shortest};
 ghost use Rattle.json_pieces.specs.Telling.{Tells, at};
 
 use json_pieces::Line;
-use vdiff_core::Out;
+use printing::Out;
 
 /// The shortest spelling of a number, and how many bytes it has, at most ten.
 fn spelling_of(value: u64) -> ([u8; 10], usize)

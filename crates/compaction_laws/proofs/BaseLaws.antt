@@ -9,7 +9,7 @@ use Rattle.std.specs.Map.{lookup}
 use Rattle.std.specs.Option.{option_or}
 use Rattle.std.specs.Ordering.{is_eq, ordering_reverse}
 use Rattle.list_laws.proofs.Fronts.{All-append}
-use Rattle.outcome.specs.Outcome.{◌>>=◌}
+use Rattle.list_laws.specs.Outcome.{◌>>=◌}
 use Rattle.filter_rule.specs.PlanValue.{PlanValue, passes_of}
 use Rattle.pk_copy.specs.KeyOf.{key_of}
 use Rattle.pk_copy.specs.KeyOrder.{key_cmp}

@@ -1,9 +1,10 @@
 //! Two dumps compared.
 
 use crate::two_tables::plan;
+use dump::{DumpRows, read_dump};
 use filter_rule::Plan;
 use std::alloc::Global;
-use vdiff_core::{DumpRows, Report, compare, first_difference, read_dump};
+use vdiff::{Report, compare, first_difference};
 
 /// Rows 1 `a`, 2 `b` and 3 `c` of `t`.
 const SOURCE: &[u8] = b"table t\nx31\tx61\nx32\tx62\nx33\tx63\ntable u\n";

@@ -3,12 +3,14 @@
 ghost use Rattle.std.specs.Prelude.{Some};
 
 use crate::two_tables::plan;
+use dump::*;
 use filter_rule::Plan;
 use pk_copy::{Key, KeyView, key_of};
+use printing::*;
 use row_view::{RowBuf, RowView};
 use std::alloc::Global;
 use std::sync::Arc;
-use vdiff_core::*;
+use vdiff::*;
 
 /// The dump of `some_rows`.
 const DUMP: &[u8] = b"table t\nx31\tx61\nx32\tN\nx3131\tx\ntable u\nx39\n";

@@ -1,9 +1,9 @@
 //! Dumps that are read, and texts that are none.
 
 use crate::two_tables::plan;
+use dump::{DumpFault, read_dump};
 use filter_rule::Plan;
 use std::alloc::Global;
-use vdiff_core::{DumpFault, read_dump};
 
 /// Texts whose first line cannot stand.
 const FIRST: [&[u8]; 4] = [

@@ -1,10 +1,11 @@
 //! Two dumps compared table by table, and the first keys at which they differ.
 
 use crate::two_tables::plan;
+use dump::{DumpRows, read_dump};
 use filter_rule::Plan;
+use printing::{Gathered, Out, Writer};
 use std::alloc::Global;
-use vdiff_core::{DumpRows, Gathered, Out, Writer, read_dump};
-use vdiff_tables::{add_differences, add_tables, table_reports};
+use vdiff::{add_differences, add_tables, table_reports};
 
 /// Rows 1 `a`, 2 NULL and 3 `c` of `t`, and 1 of `u`.
 const SOURCE: &[u8] = b"table t\nx31\tx61\nx32\tN\nx33\tx63\ntable u\nx31\n";

@@ -18,7 +18,7 @@ use Rattle.pk_copy.specs.KeyOrder.{key_cmp}
 use Rattle.pk_copy.specs.KeyOrderLaws.{key_cmp_total}
 use Rattle.pk_copy.specs.KeyValue.{KeyValue}
 use Rattle.proto_wire.specs.Parts.{parts, scalar, text}
-use Rattle.vdiff_core.specs.Report.{row_eq}
+use Rattle.vdiff.specs.Report.{row_eq}
 use Rattle.source_feed.specs.GroupValue.{Position, TableChangeValue, GroupValue}
 use Rattle.source_feed.specs.History.{RowValue}
 use Rattle.source_feed.specs.Touches.{PutValue, TouchValue, PreparedValue}

@@ -3,7 +3,7 @@ use Rattle.std.proofs.Common.{◌≡◌, ◌<◌, ℕ, map, get_or, List, [], �
 use Rattle.std.specs.Prelude.{slice_get}
 use Rattle.std.proofs.lemmas.List.{append_assoc, append-nil, get_or-map, length-map}
 use Rattle.std.proofs.lemmas.Option.{slice_get-get_or}
-use Rattle.outcome.specs.Outcome.{◌>>=◌, each}
+use Rattle.list_laws.specs.Outcome.{◌>>=◌, each}
 
 -- ---- the changes of a group
 

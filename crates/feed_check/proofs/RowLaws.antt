@@ -5,12 +5,12 @@ use Rattle.std.specs.Bool.{Decides}
 use Rattle.std.specs.Option.{option_map}
 use Rattle.std.specs.Ordering.{eq_by_cmp}
 use Rattle.std.proofs.lemmas.Map.Made.{lookup-map_values}
-use Rattle.vdiff_core.proofs.ReportLaws.{row_eq-Decides}
+use Rattle.vdiff.proofs.ReportLaws.{row_eq-Decides}
 use Rattle.pk_copy.specs.KeyOrder.{key_cmp}
 use Rattle.pk_copy.specs.KeyValue.{KeyValue}
 use Rattle.target_tables.specs.Contents.{value_at}
 use Rattle.target_tables.specs.Touches.{last_at, touched, IsTouched}
-use Rattle.vdiff_core.specs.Report.{row_eq}
+use Rattle.vdiff.specs.Report.{row_eq}
 use Rattle.source_feed.specs.History.{RowValue}
 use Rattle.feed_check.specs.Replay.{left_at}
 use Rattle.feed_check.specs.Private.Replayed.{Entries, rows_of, AreOwn, row_in}

@@ -3,7 +3,7 @@
 use Rattle.std.specs.Prelude.{ℕ, ◌==◌, ◌&&◌, List, [], ◌∷◌, length, Bool, false, Option, Some, None, Result, Ok}
 use Rattle.std.specs.List.{count_by, list_any}
 use Rattle.filter_rule.specs.PlanValue.{PlanValue}
-use Rattle.outcome.specs.Outcome.{◌>>=◌, each}
+use Rattle.list_laws.specs.Outcome.{◌>>=◌, each}
 use Rattle.board_laws.specs.KeptRows.{passed_rows}
 use Rattle.source_feed.specs.declared.fault.FeedFault.{FeedFault}
 use Rattle.source_feed.specs.Groups.{groups}

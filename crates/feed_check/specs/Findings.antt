@@ -6,7 +6,7 @@ use Rattle.std.specs.Option.{option_map, option_and_then, option_to_list}
 use Rattle.std.specs.Ordering.{eq_by_cmp}
 use Rattle.pk_copy.specs.KeyOrder.{key_cmp}
 use Rattle.pk_copy.specs.KeyValue.{KeyValue}
-use Rattle.vdiff_core.specs.Report.{row_eq}
+use Rattle.vdiff.specs.Report.{row_eq}
 use Rattle.source_feed.specs.History.{RowValue}
 use Rattle.feed_check.specs.KeyedChanges.{KeyedRowValue, KeyedChangeValue}
 use Rattle.feed_check.specs.Replay.{row_left}

@@ -2,7 +2,7 @@
 
 ghost use Rattle.std.specs.Prelude.{◌≡◌, ◌∷◌, ◌++◌, List, IfOk, OnOk};
 ghost use Rattle.std.specs.Option.{option_copied, option_to_list};
-ghost use Rattle.vdiff_core.specs.Report.{row_eq};
+ghost use Rattle.vdiff.specs.Report.{row_eq};
 ghost use Rattle.feed_check.specs.KeyedChanges.{KeyedChangeValue};
 ghost use Rattle.feed_check.specs.Replay.{put, removal, touches_of_keyed};
 ghost use Rattle.feed_check.specs.Findings.{has_key, why_before, why_after, found_before, found_after};

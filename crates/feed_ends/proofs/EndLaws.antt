@@ -3,7 +3,7 @@ use Rattle.std.proofs.Common.{◌≡◌, ◌∙◌, ℕ, zero, suc, ◌+◌, Boo
 use Rattle.std.specs.Prelude.{OnOk, cond, not, slice_get}
 use Rattle.std.proofs.lemmas.Option.{none-some, same_Some}
 use Rattle.std.specs.Result.{result_ok}
-use Rattle.outcome.specs.Outcome.{◌>>=◌, GivesUnless, refused_if}
+use Rattle.list_laws.specs.Outcome.{◌>>=◌, GivesUnless, refused_if}
 use Rattle.source_feed.specs.GroupValue.{Position}
 use Rattle.source_feed.specs.Planned.{FeedValue}
 use Rattle.vrepl_choices.specs.UntilValue.{UntilValue}

@@ -1,6 +1,6 @@
 -- Feeds up to positions (this profile).
 use Rattle.std.specs.Prelude.{◌≡◌, ℕ, ◌+◌, not, if◌then◌else◌, List, [], ◌∷◌, length, Option, Some, None, Result, Ok, Err, slice_get}
-use Rattle.outcome.specs.Outcome.{◌>>=◌, refused_if}
+use Rattle.list_laws.specs.Outcome.{◌>>=◌, refused_if}
 use Rattle.gtid_set.specs.Text.{position_of_text}
 use Rattle.source_feed.specs.GroupValue.{Position}
 use Rattle.source_feed.specs.Planned.{FeedValue}

@@ -1,7 +1,7 @@
 //! The positions that are given for feeds.
 
 ghost use Rattle.std.specs.Prelude.{◌≡◌, map};
-ghost use Rattle.outcome.specs.Outcome.{GivesUnless};
+ghost use Rattle.list_laws.specs.Outcome.{GivesUnless};
 ghost use Rattle.std.specs.Prelude.{option_map};
 ghost use Rattle.vrepl_choices.specs.UntilValue.{until_value};
 ghost use Rattle.feed_ends.specs.Faults.{meant_of};

@@ -1,7 +1,7 @@
 //! Feeds up to positions.
 
 ghost use Rattle.std.specs.Prelude.{◌≡◌, OnOk, map};
-ghost use Rattle.outcome.specs.Outcome.{GivesUnless};
+ghost use Rattle.list_laws.specs.Outcome.{GivesUnless};
 ghost use Rattle.vrepl_choices.specs.UntilValue.{until_value};
 ghost use Rattle.feed_ends.specs.EndedFeeds.{AreEnded, ended_feed, ended_feeds, ended_from};
 ghost use Rattle.feed_ends.specs.Faults.{meant_of};

@@ -1,6 +1,6 @@
 -- How many whole groups some bytes of a feed begin with (this profile).
 use Rattle.std.specs.Prelude.{ℕ, List, [], ◌∷◌, ◌++◌, length, Result, Ok}
-use Rattle.outcome.specs.Outcome.{◌>>=◌}
+use Rattle.list_laws.specs.Outcome.{◌>>=◌}
 use Rattle.source_feed.specs.declared.fault.FeedFault.{FeedFault}
 use Rattle.source_feed.specs.Groups.{groups}
 use Rattle.source_feed.specs.SourceValue.{SourceValue}

@@ -1,7 +1,7 @@
 //! The messages of a feed.
 
 ghost use Rattle.std.specs.Prelude.{◌≡◌, IfOk};
-ghost use Rattle.outcome.specs.Outcome.{GivesUnless};
+ghost use Rattle.list_laws.specs.Outcome.{GivesUnless};
 ghost use Rattle.proto_wire.specs.Frame.{frames_of};
 ghost use Rattle.source_feed.specs.FaultNumber.{meant_of};
 ghost use Rattle.source_feed.specs.Planned.{source_of};

@@ -1,6 +1,6 @@
 -- Where a reader stops (this profile).
 use Rattle.std.specs.Prelude.{◌≡◌, ℕ, ◌+◌, ◌≤◌, length, IsOk}
-use Rattle.outcome.specs.Outcome.{Refuses}
+use Rattle.list_laws.specs.Outcome.{Refuses}
 use Rattle.source_feed.specs.declared.fault.FeedFault.TheVariants.{Memory}
 use Rattle.source_feed.specs.FaultNumber.{meant_of}
 use Rattle.source_feed.specs.Planned.{FeedValue}

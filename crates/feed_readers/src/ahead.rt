@@ -2,7 +2,7 @@
 
 ghost use Rattle.std.specs.Prelude.{◌≡◌, List, Err, IfOk, IsOk};
 ghost use Rattle.std.specs.Arc.{arc_value};
-ghost use Rattle.outcome.specs.Outcome.{GivesUnless};
+ghost use Rattle.list_laws.specs.Outcome.{GivesUnless};
 ghost use Rattle.source_feed.specs.FaultNumber.{meant_of};
 ghost use Rattle.source_feed.specs.Touches.{PreparedValue, prepared_at};
 ghost use Rattle.feed_readers.specs.Ahead.{StandsReady};

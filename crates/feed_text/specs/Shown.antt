@@ -3,7 +3,7 @@ use Rattle.std.specs.Prelude.{ℕ, List, [], ◌∷◌, ◌++◌, Option, None, 
 use Rattle.std.specs.List.{flat_map}
 use Rattle.gtid_set.specs.Printed.{printed_position}
 use Rattle.source_feed.specs.GroupValue.{TableChangeValue, GroupValue}
-use Rattle.vdiff_core.specs.Cells.{cells}
+use Rattle.dump.specs.Cells.{cells}
 
 -- the line of a row of a table behind its mark
 abbrev pub shown_row_line : List ℕ → List ℕ → List (Option (List ℕ)) → List ℕ

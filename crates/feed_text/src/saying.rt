@@ -4,7 +4,7 @@ ghost use Rattle.std.specs.Prelude.{◌≡◌, ◌≤◌, ◌++◌, ◌∷◌, [
 ghost use Rattle.hex.specs.Hex.{encode_lower};
 ghost use Rattle.row_view.specs.ColumnValue.{column_value};
 ghost use Rattle.gtid_set.specs.Printed.{printed_position};
-ghost use Rattle.vdiff_core.specs.Cells.{cell, cells};
+ghost use Rattle.dump.specs.Cells.{cell, cells};
 ghost use Rattle.feed_text.specs.Shown.{shown_row_line, shown_row_lines, change_text, changes_text, group_line, group_text, shown};
 ghost use Rattle.feed_text.specs.declared.saying.Unlike.TheVariants.{Memory};
 

@@ -2,7 +2,7 @@
 use Rattle.std.proofs.Common.{◌≡◌, ℕ, zero, suc, ◌+◌, ◌<◌, ◌≤◌, List, [], ◌∷◌, ◌++◌, length, drop, get_or, map, Some, Result, Ok, Err, refl, sym, ap, subst, ◌∙◌, arith}
 use Rattle.std.specs.Prelude.{slice_get}
 use Rattle.std.proofs.lemmas.Option.{same_Some}
-use Rattle.outcome.specs.Outcome.{◌>>=◌}
+use Rattle.list_laws.specs.Outcome.{◌>>=◌}
 use Rattle.filter_rule.specs.Document.{StreamSaid}
 use Rattle.filter_rule.specs.Faults.{Fault}
 use Rattle.filter_rule.specs.FirstRule.{AreByFirst}
@@ -21,7 +21,7 @@ pub record IsDecided (tables : List TableValue) (n : ℕ) (stream : StreamSaid) 
   pub first : AreByFirst n tables stream.rules one.decisions
   pub fit : AreTables tables → AreDecided tables one.decisions
 
-decided_parts : (tables : List TableValue) (n : ℕ) (stream : StreamSaid) (one : Decided) → decided_by tables n stream ≡ Ok one → IsDecided tables n stream one
+pub decided_parts : (tables : List TableValue) (n : ℕ) (stream : StreamSaid) (one : Decided) → decided_by tables n stream ≡ Ok one → IsDecided tables n stream one
 unfolding decided_by
 decided_parts tables n stream one h =
     then_ok _ (decisions_of n tables stream.rules) one h (λ ds ds_is h2.

@@ -96,6 +96,20 @@ closed_at streams t (table ∷ tables) closed h i one is =
     then_ok _ (agreed streams t table (first_kept t streams)) closed h (λ kept kept_is h2. then_ok _ (closed_from streams (t + 1) tables) closed h2 (λ rest rest_is h3.
     closed_step streams t table tables kept rest i one kept_is (closed_at streams (t + 1) tables rest rest_is) (ap (λ xs. slice_get xs i) (same_ok (keeping table kept ∷ rest) closed h3) ∙ is)))
 
+-- of each table streams agree
+pub agreed_there : (streams : List Decided) (t : ℕ) (tables closed : List TableValue) (i : ℕ) (table : TableValue) → closed_from streams t tables ≡ Ok closed → slice_get tables i ≡ Some table → (kept : List ℕ) × Agreement streams (t + i) table kept
+unfolding closed_from
+agreed_there streams t [] closed i table h is = cc
+agreed_there streams t (one ∷ tables) closed zero table h is =
+    then_ok _ (agreed streams t one (first_kept t streams)) closed h (λ kept kept_is h2.
+    let at : t ≡ t + 0 = omega arith in
+    (kept, subst (λ n. Agreement streams n table kept) at (subst (λ x. Agreement streams t x kept) (same_Some one table is) (agreement streams t one (first_kept t streams) kept refl kept_is))))
+agreed_there streams t (one ∷ tables) closed (suc i) table h is =
+    then_ok _ (agreed streams t one (first_kept t streams)) closed h (λ kept kept_is h2. then_ok _ (closed_from streams (t + 1) tables) closed h2 (λ rest rest_is h3.
+    let there = agreed_there streams (t + 1) tables rest i table rest_is is in
+    let at : (t + 1) + i ≡ t + suc i = omega arith in
+    (there.0, subst (λ n. Agreement streams n table there.0) at there.1)))
+
 -- what doesn't look at the kept columns stays
 pub closed_map : {B : Type 0} (f : TableValue → B) → ((table : TableValue) (kept : List ℕ) → f (keeping table kept) ≡ f table) → (streams : List Decided) (t : ℕ) (tables closed : List TableValue) → closed_from streams t tables ≡ Ok closed → map f closed ≡ map f tables
 unfolding closed_from
@@ -171,7 +185,7 @@ fits_kept table kept NoRule fit same = tt
 fits_kept table kept (EveryRow k) fit same = same k refl
 fits_kept table kept (InRange place vindex range k) fit same = (fit.0, same k refl)
 
-same_kept : (streams : List Decided) (t : ℕ) (table : TableValue) (kept : List ℕ) → Agreement streams t table kept → (i : ℕ) (stream : Decided) (k : List ℕ) → slice_get streams i ≡ Some stream → kept_in t stream ≡ Some k → k ≡ kept
+pub same_kept : (streams : List Decided) (t : ℕ) (table : TableValue) (kept : List ℕ) → Agreement streams t table kept → (i : ℕ) (stream : Decided) (k : List ℕ) → slice_get streams i ≡ Some stream → kept_in t stream ≡ Some k → k ≡ kept
 same_kept streams t table kept (by_none none same) i stream k there keeps = let no : kept_in t stream ≡ None = none_keeps t streams none i stream there in cc
 same_kept streams t table kept (by_all by all) i stream k there keeps = all i stream k there keeps
 

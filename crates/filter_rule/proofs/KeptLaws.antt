@@ -6,7 +6,7 @@ use Rattle.std.specs.Str.{bytes_eq}
 use Rattle.std.proofs.lemmas.Option.{slice_get_within, slice_get-map, same_Some}
 use Rattle.std.proofs.lemmas.Slice.Eq.{bytes_eq-Decides}
 use Rattle.std.proofs.lemmas.Bool.{or_parts}
-use Rattle.outcome.specs.Outcome.{each}
+use Rattle.list_laws.specs.Outcome.{each}
 use Rattle.vindex.specs.Bounds.{Bounds}
 use Rattle.vindex.specs.RangeText.{key_range_of_text}
 use Rattle.filter_text.specs.ColumnList.{columns_of, has_column, has_twice}

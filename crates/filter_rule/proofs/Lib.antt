@@ -26,4 +26,5 @@ pub mod StandingRules
 pub mod ShapeFault
 pub mod StandingLaws
 pub mod WholeLaws
+pub mod SoundLaws
 pub mod FurtherLaws

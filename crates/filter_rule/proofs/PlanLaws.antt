@@ -6,7 +6,7 @@ use Rattle.std.specs.Arc.{arc_value}
 use Rattle.std.specs.declared.sync.Arc.{Arc}
 use Rattle.filter_rule.specs.Private.Accepted.{AreNarrow, ArePlansOver, IsAccepted}
 use Rattle.filter_rule.specs.Document.{StreamSaid, TableSaid, DocumentSaid}
-use Rattle.outcome.specs.Outcome.{each}
+use Rattle.list_laws.specs.Outcome.{each}
 use Rattle.filter_rule.specs.Resolving.{resolved}
 use Rattle.filter_rule.specs.PlanTable.{TableValue}
 use Rattle.filter_rule.specs.Limits.{is_within}

@@ -18,17 +18,17 @@ places_at plan t (Some table) fit is i place there = ((fit.tables.each_table t t
 pub key_places : (plan : PlanValue) (t : ℕ) → IsPlan plan → AreColumnPlaces (columns_of plan t) (key_columns_of plan t)
 key_places plan t fit = places_at plan t (slice_get plan.tables t) fit refl
 
-kept_at : (plan : PlanValue) (t : ℕ) (o : Option TableValue) → IsPlan plan → slice_get plan.tables t ≡ o → t < length plan.tables
+kept_at : (plan : PlanValue) (t : ℕ) (o : Option TableValue) → IsPlan plan → slice_get plan.tables t ≡ o
     → AreKept (option_map_or (λ (table : TableValue). table.columns) o []) (option_map_or (λ (table : TableValue). table.key) o []) (option_map_or (λ (table : TableValue). table.kept) o [])
-kept_at plan t None fit is there =
-    elim (slice_get_cases plan.tables t).1 [
-      | inl found ↦ let some : slice_get plan.tables t ≡ Some found.0 = found.2 in absurd (cc)
-      | inr past ↦ absurd (omega arith)
-    ]
-kept_at plan t (Some table) fit is there = (fit.tables.each_table t table is).kept_columns
+kept_at plan t None fit is = record {
+  places = λ i place there. cc;
+  apart = λ i j place there other. cc;
+  key_kept = λ i place there. cc;
+}
+kept_at plan t (Some table) fit is = (fit.tables.each_table t table is).kept_columns
 
-pub plan_kept : (plan : PlanValue) (t : ℕ) → IsPlan plan → t < length plan.tables → AreKept (columns_of plan t) (key_columns_of plan t) (kept_columns_of plan t)
-plan_kept plan t fit there = kept_at plan t (slice_get plan.tables t) fit refl there
+pub plan_kept : (plan : PlanValue) (t : ℕ) → IsPlan plan → AreKept (columns_of plan t) (key_columns_of plan t) (kept_columns_of plan t)
+plan_kept plan t fit = kept_at plan t (slice_get plan.tables t) fit refl
 
 fits_width : (table : TableValue) (d : Decision) → FitsTable table d → IsWithin (length table.columns) d
 fits_width table NoRule fit = tt

@@ -24,7 +24,7 @@ pub first_of : (text : List ℕ) (r : Result Plans PlanFault) → GivesOrFails v
 first_of text (Ok v) h = follows_first text (values v) h
 first_of text (Err e) h = tt
 
-refuses_all : (text : List ℕ) → IsNoJson text → plans_of text ≡ Err json
+pub refuses_all : (text : List ℕ) → IsNoJson text → plans_of text ≡ Err json
 unfolding plans_of
 refuses_all text none = rw (json_refused text none) refl
 

@@ -7,7 +7,7 @@ use Rattle.std.proofs.lemmas.Bool.Decides.{nat_tests}
 use Rattle.std.proofs.lemmas.List.Folds.{find_at}
 use Rattle.std.proofs.lemmas.Option.{slice_get_past, same_Some}
 use Rattle.std.proofs.lemmas.Slice.Eq.{bytes_eq-Decides}
-use Rattle.outcome.specs.Outcome.{◌>>=◌, each}
+use Rattle.list_laws.specs.Outcome.{◌>>=◌, each}
 use Rattle.filter_rule.specs.Faults.{Fault, no_such_column}
 use Rattle.row_view.specs.FieldValue.{FieldValue}
 use Rattle.filter_rule.specs.Resolving.{place_in, type_in}

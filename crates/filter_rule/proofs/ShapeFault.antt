@@ -3,7 +3,7 @@ use Rattle.std.proofs.Common.{◌≡◌, ℕ, List, [], ◌∷◌, Bool, true, f
 use Rattle.serde_json.specs.Data.{Data}
 use Rattle.serde_json.specs.Find.{get, as_str}
 use Rattle.filter_rule.specs.Document.{found, member_in, text_of, list_of, text_in, list_in, two_of, pair_of, is_name, name_of, type_by, type_said, column_of, uses_hash, uses_no_other, vindex_named, vindex_of, vindex_if, vindex_said, filter_if, filter_in, rule_of, stream_of, has_twice, distinct, list_apart, table_of, document_of}
-use Rattle.outcome.specs.Outcome.{◌>>=◌, each}
+use Rattle.list_laws.specs.Outcome.{◌>>=◌, each}
 use Rattle.filter_rule.specs.Faults.{Fault, shape}
 use Rattle.filter_rule.proofs.RefusedSteps.{failed, same_fault}
 

@@ -14,7 +14,7 @@ use Rattle.serde_json.specs.Data.{Data}
 use Rattle.vindex.specs.declared.vindexes.Vindex.{Vindex}
 use Rattle.filter_rule.specs.Private.Accepted.{IsAccepted}
 use Rattle.filter_rule.specs.Document.{StreamSaid, TableSaid, DocumentSaid, member_in, text_in, list_in, name_of, column_of, vindex_said, rule_of, stream_of, list_apart, table_of, distinct, document_of, uses_hash, uses_no_other}
-use Rattle.outcome.specs.Outcome.{each}
+use Rattle.list_laws.specs.Outcome.{each}
 use Rattle.filter_rule.specs.Faults.{Fault, key_type, limit, no_such_column}
 use Rattle.filter_rule.specs.Limits.{is_up_to, is_table_within, is_within}
 use Rattle.row_view.specs.FieldValue.{FieldValue}
@@ -147,7 +147,7 @@ few_streams d h =
     let both = and_parts (is_up_to 64 (length d.streams) && is_up_to 64 (length d.tables)) (list_all is_table_within d.tables) h in
     up_to 64 (length d.streams) (and_parts (is_up_to 64 (length d.streams)) (is_up_to 64 (length d.tables)) both.0).0
 
-few_tables : (d : DocumentSaid) → is_within d ≡ true → AreUpTo 64 d.tables
+pub few_tables : (d : DocumentSaid) → is_within d ≡ true → AreUpTo 64 d.tables
 few_tables d h =
     let both = and_parts (is_up_to 64 (length d.streams) && is_up_to 64 (length d.tables)) (list_all is_table_within d.tables) h in
     up_to 64 (length d.tables) (and_parts (is_up_to 64 (length d.streams)) (is_up_to 64 (length d.tables)) both.0).1
@@ -250,7 +250,7 @@ distinct_places table columns names places apart is i j place a b =
     let names_same : second.item ≡ first.item = sym there.named ∙ ap (λ (c : FieldValue). c.name) (sym same) ∙ here.named in
     apart i j first.item first.stands (second.stands ∙ ap Some names_same)
 
-no_refusal : (table : List ℕ) (o a : Option (List ℕ)) → refuse_type table o ≡ Ok a → o ≡ None
+pub no_refusal : (table : List ℕ) (o a : Option (List ℕ)) → refuse_type table o ≡ Ok a → o ≡ None
 no_refusal table None a h = refl
 no_refusal table (Some name) a h = cc
 
@@ -263,7 +263,7 @@ key_fits table columns names places a is fit i place there =
 
 -- ---- the vindex
 
-type_kept : (b : Bool) (table name x : List ℕ) → cond b (read_as name) (Err (key_type table name)) ≡ Ok x → b ≡ true
+pub type_kept : (b : Bool) (table name x : List ℕ) → cond b (read_as name) (Err (key_type table name)) ≡ Ok x → b ≡ true
 type_kept true table name x h = refl
 type_kept false table name x h = cc
 

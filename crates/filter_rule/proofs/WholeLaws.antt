@@ -4,7 +4,7 @@ use Rattle.std.specs.Prelude.{slice_get, slice_index_or, IfOk}
 use Rattle.std.proofs.lemmas.List.{length-map}
 use Rattle.std.proofs.lemmas.Option.{slice_get-map}
 use Rattle.filter_rule.specs.Document.{StreamSaid, TableSaid, DocumentSaid, document_of}
-use Rattle.outcome.specs.Outcome.{◌>>=◌, each}
+use Rattle.list_laws.specs.Outcome.{◌>>=◌, each}
 use Rattle.filter_rule.specs.Faults.{GivesOrFails}
 use Rattle.filter_rule.specs.FirstRule.{document_in}
 use Rattle.filter_rule.specs.Limits.{is_within, known_vindexes, within_limits}
@@ -25,20 +25,21 @@ use Rattle.filter_rule.proofs.StepLaws.{then_ok, same_ok, each_at}
 use Rattle.filter_rule.proofs.TableLaws.{HasNames, limits_kept, document_names, few_streams, resolved_parts}
 
 -- what a text says that has plans
-record Whole (text : List ℕ) (plans : List PlanValue) : Type 0 where
-  document : DocumentSaid
-  says : document_in text ≡ Ok document
-  names : HasNames document
-  within : is_within document ≡ true
-  tables : List TableValue
-  tables_are : each resolved document.tables ≡ Ok tables
-  streams : List Decided
-  streams_are : decided_from tables 0 document.streams ≡ Ok streams
-  closed : List TableValue
-  closed_are : closed_from streams 0 tables ≡ Ok closed
-  plans_are : map (plan_over document.keyspace closed) streams ≡ plans
+pub record Whole (text : List ℕ) (plans : List PlanValue) : Type 0 where
+  pub document : DocumentSaid
+  pub says : document_in text ≡ Ok document
+  pub names : HasNames document
+  pub within : is_within document ≡ true
+  pub known : document.uses_no_other ≡ true
+  pub tables : List TableValue
+  pub tables_are : each resolved document.tables ≡ Ok tables
+  pub streams : List Decided
+  pub streams_are : decided_from tables 0 document.streams ≡ Ok streams
+  pub closed : List TableValue
+  pub closed_are : closed_from streams 0 tables ≡ Ok closed
+  pub plans_are : map (plan_over document.keyspace closed) streams ≡ plans
 
-whole_at : (text : List ℕ) (plans : List PlanValue) → plans_of text ≡ Ok plans → Whole text plans
+pub whole_at : (text : List ℕ) (plans : List PlanValue) → plans_of text ≡ Ok plans → Whole text plans
 unfolding plans_of plans_of_document
 whole_at text plans is =
     then_ok _ (json_of text) plans is (λ value value_is h2. then_ok _ (document_of value) plans h2 (λ said said_is h2k. then_ok _ (known_vindexes said) plans h2k (λ known known_is h3. then_ok _ (within_limits said) plans h3 (λ document document_is h4.
@@ -50,6 +51,7 @@ whole_at text plans is =
       says = ap (λ r. r >>= document_of) value_is ∙ said_is ∙ ap Ok kept.1;
       names = subst HasNames kept.1 (document_names value said said_is);
       within = subst (λ d. is_within d ≡ true) kept.1 kept.0;
+      known = ap (λ (d : DocumentSaid). d.uses_no_other) (sym kept.1) ∙ (limits_kept said.uses_no_other said known known_is).0;
       tables = tables;
       tables_are = tables_are;
       streams = streams;

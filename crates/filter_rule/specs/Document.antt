@@ -8,7 +8,7 @@ use Rattle.serde_json.specs.Find.{get, as_str, as_array, as_number, as_u64}
 use Rattle.vindex.specs.KeyspaceId.{vindex_of_name}
 use Rattle.vindex.specs.declared.vindexes.Vindex.{Vindex}
 use Rattle.vindex.specs.declared.vindexes.Vindex.TheVariants.{Numeric, ReverseBits, Binary, BinaryMd5, Hash}
-use Rattle.outcome.specs.Outcome.{◌>>=◌, each}
+use Rattle.list_laws.specs.Outcome.{◌>>=◌, each}
 use Rattle.filter_rule.specs.Faults.{Fault, shape}
 use Rattle.row_view.specs.FieldValue.{FieldValue}
 use Rattle.filter_rule.specs.TypeNumbers.{type_of_name}

@@ -7,7 +7,7 @@ use Rattle.vindex.specs.declared.vindexes.Vindex.{Vindex}
 use Rattle.vindex.specs.declared.vindexes.Vindex.TheVariants.{Numeric, ReverseBits, Binary, BinaryMd5, Hash}
 use Rattle.filter_text.specs.ColumnList.{has_column}
 use Rattle.filter_rule.specs.Document.{TableSaid}
-use Rattle.outcome.specs.Outcome.{◌>>=◌, each}
+use Rattle.list_laws.specs.Outcome.{◌>>=◌, each}
 use Rattle.filter_rule.specs.Faults.{Fault, no_such_column, key_type}
 use Rattle.row_view.specs.FieldValue.{FieldValue}
 use Rattle.filter_rule.specs.PlanTable.{TableValue}

@@ -7,7 +7,7 @@ use Rattle.vindex.specs.declared.vindexes.Vindex.{Vindex}
 use Rattle.filter_text.specs.FilterText.{RowsSaid, every_row, in_own_range, in_range_of, FilterMeaning, filter_of}
 use Rattle.filter_text.specs.RuleScope.{TablesSaid, scope_of, is_for, agrees}
 use Rattle.filter_rule.specs.Document.{RuleSaid, may_name}
-use Rattle.outcome.specs.Outcome.{◌>>=◌, each}
+use Rattle.list_laws.specs.Outcome.{◌>>=◌, each}
 use Rattle.filter_rule.specs.Faults.{Fault, bad_rule}
 use Rattle.filter_rule.specs.PlanTable.{TableValue}
 use Rattle.filter_rule.specs.Resolving.{place_in, all_places, lists_key, vindex_type}

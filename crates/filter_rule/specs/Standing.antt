@@ -121,3 +121,7 @@ Stands text (no_such_column table column) = SaysSuch text (λ document. LacksCol
 Stands text (key_type table column) = SaysSuch text (λ document. HasUnfitColumn document table column)
 Stands text (bad_rule stream rule) = SaysSuch text (λ document. HasBadRule document stream rule)
 Stands text (columns_differ table) = SaysSuch text (λ document. KeepDifferent document table)
+
+-- no fault of the workflow's rules stands in the file
+abbrev pub IsFaultless : List ℕ → Type 0
+IsFaultless text = (fault : Fault) → ¬ Stands text fault

@@ -1,7 +1,7 @@
 -- Which plans belong to which streams of a workflow file.
 use Rattle.std.specs.Prelude.{◌≡◌, ℕ, List, Some, Ok, map, slice_get}
 use Rattle.filter_rule.specs.Document.{DocumentSaid}
-use Rattle.outcome.specs.Outcome.{each}
+use Rattle.list_laws.specs.Outcome.{each}
 use Rattle.filter_rule.specs.FirstRule.{document_in}
 use Rattle.filter_rule.specs.PlanValue.{PlanValue}
 use Rattle.filter_rule.specs.PlanTable.{TableValue, keeping}

@@ -1,7 +1,7 @@
 //! What a rule decides of a table.
 
 ghost use Rattle.std.specs.Prelude.{◌≡◌, ◌≤◌, length};
-ghost use Rattle.outcome.specs.Outcome.{each};
+ghost use Rattle.list_laws.specs.Outcome.{each};
 ghost use Rattle.filter_text.specs.FilterText.{in_range_of};
 ghost use Rattle.filter_rule.specs.Faults.{GivesOrFails};
 ghost use Rattle.filter_rule.specs.Rules.{kept_by, own_decision, decide, decide_once, decide_each};

@@ -2,7 +2,7 @@
 
 ghost use Rattle.std.specs.Prelude.{Result, map};
 ghost use Rattle.serde_json.specs.View.{view};
-ghost use Rattle.outcome.specs.Outcome.{each};
+ghost use Rattle.list_laws.specs.Outcome.{each};
 ghost use Rattle.filter_rule.specs.Faults.{GivesOrFails};
 ghost use Rattle.filter_rule.specs.Document.{type_said, column_of, vindex_of, vindex_said, filter_in, rule_of, stream_of, list_apart, table_of, document_of};
 

@@ -1,6 +1,7 @@
 //! A stream's plan.
 
-ghost use Rattle.std.specs.Prelude.{◌≡◌, ◌↔◌, IsTrue, ◌<◌, length, position, IfSome};
+ghost use Rattle.std.specs.Prelude.{◌≡◌, ◌↔◌, IsTrue, ◌<◌, length, position, slice_get, IfSome};
+ghost use Rattle.std.specs.Option.{option_copied};
 ghost use Rattle.std.specs.Str.{bytes_eq};
 ghost use Rattle.filter_rule.specs.Private.PlanParts.{plan_value};
 ghost use Rattle.filter_rule.specs.WellFormed.{IsPlan, AreColumnPlaces, AreKept};
@@ -92,33 +93,46 @@ impl Plan {
         Some(place as u8)
     }
 
-    /// The columns of table `t`, in order. That `t` is a table of the plan is the caller's.
-    pub fn columns(&self, t: u8) -> &[ColumnDef]
-        requires { t < length self.now.tables }
-        ensures { result.now ≡ columns_of self.now t }
+    /// Table `t`, if the plan has it.
+    fn table_at(&self, t: u8) -> Option<&Table>
+        ensures table { option_copied result ≡ slice_get self.now.tables t }
+        ensures whole { IsPlan self.now }
     {
-        self.schema.tables[usize::from(t)].columns()
+        self.tables().get(usize::from(t))
     }
 
-    /// The places of the key columns of table `t`, from 0, in key order. That `t` is a table of the
-    /// plan is the caller's.
+    /// The columns of table `t`, in order; none where the plan has no such table.
+    pub fn columns(&self, t: u8) -> &[ColumnDef]
+        ensures { result.now ≡ columns_of self.now t }
+    {
+        match self.table_at(t) {
+            Some(table) => table.columns(),
+            None => &[],
+        }
+    }
+
+    /// The places of the key columns of table `t`, from 0, in key order; none where the plan has no such table.
     pub fn key_columns(&self, t: u8) -> &[u8]
-        requires { t < length self.now.tables }
         ensures places { result.now ≡ key_columns_of self.now t }
         ensures within { AreColumnPlaces (columns_of self.now t) (key_columns_of self.now t) }
     {
-        self.schema.tables[usize::from(t)].key()
+        match self.table_at(t) {
+            Some(table) => table.key(),
+            None => &[],
+        }
     }
 
     /// The places of the columns that the target keeps of table `t`, from 0, in kept order: the same in
     /// each plan of a file. Each is that of a column, none stands twice, and each key column is one of
-    /// them. That `t` is a table of the plan is the caller's.
+    /// them. There are none where the plan has no such table.
     pub fn kept_columns(&self, t: u8) -> &[u8]
-        requires { t < length self.now.tables }
         ensures places { result.now ≡ kept_columns_of self.now t }
         ensures kept { AreKept (columns_of self.now t) (key_columns_of self.now t) (kept_columns_of self.now t) }
     {
-        self.schema.tables[usize::from(t)].kept()
+        match self.table_at(t) {
+            Some(table) => table.kept(),
+            None => &[],
+        }
     }
 
     /// Whether a row of table `t` passes the stream's filter: the answer of the first rule that matches

@@ -2,11 +2,11 @@
 
 ghost use Rattle.std.specs.Prelude.{◌≡◌, ◌<◌, ◌⊎◌, length, IsErrAnd, List, None, Some, Ok, Err, OnOk, IfOk, IfErr, IfSome, map, string_bytes};
 ghost use Rattle.std.specs.Arc.{arc_value};
-ghost use Rattle.outcome.specs.Outcome.{each};
+ghost use Rattle.list_laws.specs.Outcome.{each};
 ghost use Rattle.filter_rule.specs.Faults.{GivesOrFails, definition_fault_of};
 ghost use Rattle.filter_rule.specs.FirstRule.{FollowFirstRules};
 ghost use Rattle.filter_rule.specs.Private.Accepted.{AreNarrow, ArePlansOver, IsAccepted};
-ghost use Rattle.filter_rule.specs.Standing.{Stands};
+ghost use Rattle.filter_rule.specs.Standing.{Stands, IsFaultless};
 ghost use Rattle.filter_rule.specs.Streams.{FollowStreams};
 ghost use Rattle.filter_rule.specs.WellFormed.{IsPlan, ArePlans};
 ghost use Rattle.filter_rule.specs.PlanValue.{PlanValue};
@@ -177,6 +177,8 @@ impl Plan {
         ensures streams { IfOk result (λ v. FollowStreams text.now (map arc_value v.items)) }
         // What a refusal says of the file stands in it.
         ensures stands { IfErr result (λ fault. IfSome (definition_fault_of fault) (Stands text.now)) }
+        // In a file that is read no fault stands.
+        ensures sound { OnOk result (IsFaultless text.now) }
         // The first rule of a stream that matches a table decides it.
         ensures first_rule { IfOk result (λ v. FollowFirstRules text.now (map arc_value v.items)) }
         // Memory is wanted for a text in UTF-8 that isn't empty alone.

@@ -2,7 +2,7 @@
 
 ghost use Rattle.std.specs.Prelude.{◌≡◌, ℕ, List, None, Ok, find, position, option_map, Err, ◌<◌, ◌≤◌, length, IfSome, IfOk};
 ghost use Rattle.std.specs.Str.{bytes_eq};
-ghost use Rattle.outcome.specs.Outcome.{each};
+ghost use Rattle.list_laws.specs.Outcome.{each};
 ghost use Rattle.filter_rule.specs.Faults.{GivesOrFails, no_such_column, key_type, Fault};
 ghost use Rattle.row_view.specs.FieldValue.{FieldValue};
 ghost use Rattle.filter_rule.specs.Resolving.{is_key_type, is_vindex_type, place_in, type_in, unfit_key, refuse_type, vindex_place, vindex_type, own_vindex_type, resolved};

@@ -5,7 +5,7 @@ use Rattle.std.proofs.lemmas.Bool.Decides.{nat_tests}
 use Rattle.gtid_set.specs.declared.interval.Interval.{Interval}
 use Rattle.gtid_set.specs.declared.fault.GtidFault.{GtidFault}
 use Rattle.gtid_set.specs.declared.fault.GtidFault.TheVariants.{TooLarge, Flavor, BadUuid, Syntax, BadNumber, Memory}
-use Rattle.outcome.specs.Outcome.{◌>>=◌, Refuses}
+use Rattle.list_laws.specs.Outcome.{◌>>=◌, Refuses}
 use Rattle.gtid_set.specs.Fault.{meant}
 use Rattle.gtid_set.specs.Inner.Kept.{RefusedBy}
 use Rattle.gtid_set.specs.Position.{has, holds, IsInterval, IsCanonical, HasPairMore, with_pair, last_number}

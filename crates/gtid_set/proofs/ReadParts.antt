@@ -4,7 +4,7 @@ use Rattle.std.specs.List.{AllByRecursion}
 use Rattle.std.proofs.lemmas.Bool.{cases_Bool, cond-true, cond-false, eq-eqb}
 use Rattle.gtid_set.specs.declared.interval.Interval.{Interval}
 use Rattle.gtid_set.specs.declared.fault.GtidFault.{GtidFault}
-use Rattle.outcome.specs.Outcome.{◌>>=◌}
+use Rattle.list_laws.specs.Outcome.{◌>>=◌}
 use Rattle.gtid_set.specs.Blank.{is_blank, trimmed_front, trimmed_end, unless_blank, trimmed, cut, with_first, parts_between}
 use Rattle.gtid_set.specs.Text.{all_of}
 use Rattle.gtid_set.proofs.TextIntervals.{bind_ok, ok_is}

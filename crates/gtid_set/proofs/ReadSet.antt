@@ -11,7 +11,7 @@ use Rattle.std.proofs.lemmas.Bool.Decides.{nat_tests}
 use Rattle.std.proofs.lemmas.List.{take_at, drop_at}
 use Rattle.gtid_set.specs.declared.interval.Interval.{Interval}
 use Rattle.gtid_set.specs.declared.fault.GtidFault.{GtidFault}
-use Rattle.outcome.specs.Outcome.{◌>>=◌}
+use Rattle.list_laws.specs.Outcome.{◌>>=◌}
 use Rattle.gtid_set.specs.Position.{ends_before, IsInterval, IsCanonical, last_number}
 use Rattle.gtid_set.specs.Blank.{is_blank, trimmed, cut, parts_between}
 use Rattle.gtid_set.specs.Digits.{decimal_of, uuid_of}

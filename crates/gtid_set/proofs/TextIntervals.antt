@@ -13,7 +13,7 @@ use Rattle.std.proofs.lemmas.List.Elements.{All-from_recursion, recursion_from_A
 use Rattle.gtid_set.specs.declared.interval.Interval.{Interval}
 use Rattle.gtid_set.specs.declared.fault.GtidFault.{GtidFault}
 use Rattle.gtid_set.specs.declared.fault.GtidFault.TheVariants.{BadNumber, Syntax}
-use Rattle.outcome.specs.Outcome.{◌>>=◌}
+use Rattle.list_laws.specs.Outcome.{◌>>=◌}
 use Rattle.gtid_set.specs.Position.{holds, starts_by, last_number, IsInterval, SamePairs, union_of}
 use Rattle.gtid_set.specs.Inner.Order.{IsRisingByStart}
 use Rattle.gtid_set.specs.Blank.{trimmed, cut, parts_between}

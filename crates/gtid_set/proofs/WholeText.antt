@@ -3,7 +3,7 @@ use Rattle.std.proofs.Common.{◌≡◌, ℕ, ◌≤◌, refl, sym, ◌∙◌, a
 use Rattle.std.proofs.lemmas.Bool.{cond-false, le-ltb}
 use Rattle.gtid_set.specs.declared.interval.Interval.{Interval}
 use Rattle.gtid_set.specs.declared.fault.GtidFault.{GtidFault}
-use Rattle.outcome.specs.Outcome.{◌>>=◌}
+use Rattle.list_laws.specs.Outcome.{◌>>=◌}
 use Rattle.gtid_set.specs.Blank.{trimmed, parts_between}
 use Rattle.gtid_set.specs.Text.{all_of, put_before, intervals_of_part, intervals_of_text, within_limit, without_flavor, text_limit}
 

@@ -4,7 +4,7 @@ use Rattle.gtid_set.specs.declared.interval.Interval.{Interval}
 use Rattle.gtid_set.specs.declared.fault.GtidFault.{GtidFault}
 use Rattle.gtid_set.specs.declared.fault.GtidFault.TheVariants.{TooLarge, Flavor, BadUuid, Syntax, BadNumber}
 use Rattle.std.specs.Cmp.Lexicographic.{pointwise}
-use Rattle.outcome.specs.Outcome.{◌>>=◌}
+use Rattle.list_laws.specs.Outcome.{◌>>=◌}
 use Rattle.gtid_set.specs.Position.{last_number, union_of, SamePairs}
 use Rattle.gtid_set.specs.Blank.{trimmed, cut, parts_between}
 use Rattle.gtid_set.specs.Digits.{decimal_of, uuid_of}

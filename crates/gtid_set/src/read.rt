@@ -3,7 +3,7 @@
 ghost use Rattle.std.specs.Prelude.{◌≡◌, List, Ok, IfOk, IfErr};
 ghost use Rattle.gtid_set.specs.declared.interval.Interval.{Interval as IntervalValue};
 ghost use Rattle.gtid_set.specs.Inner.Kept.{intervals_listed, Keeps, ReadsIntervals, RefusedBy};
-ghost use Rattle.outcome.specs.Outcome.{Gives};
+ghost use Rattle.list_laws.specs.Outcome.{Gives};
 ghost use Rattle.gtid_set.specs.Blank.{parts_between};
 ghost use Rattle.gtid_set.specs.Text.{all_of, intervals_of_piece, intervals_of_part, without_flavor, intervals_of_text, put_before, within_limit};
 

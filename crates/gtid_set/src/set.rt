@@ -4,7 +4,7 @@ ghost use Rattle.std.specs.Prelude.{◌≡◌, ◌≤◌, ◌<◌, ◌↔◌, []
 ghost use Rattle.std.specs.Int.{w128, from_be_bytes};
 ghost use Rattle.gtid_set.specs.declared.fault.GtidFault.{GtidFault as FaultValue};
 ghost use Rattle.gtid_set.specs.declared.fault.GtidFault.TheVariants.{Memory};
-ghost use Rattle.outcome.specs.Outcome.{GivesUnless};
+ghost use Rattle.list_laws.specs.Outcome.{GivesUnless};
 ghost use Rattle.gtid_set.specs.Fault.{meant};
 ghost use Rattle.gtid_set.specs.Position.{has, IsWithin, IsCanonical, HasBoth, HasPairMore, StandsApart, last_number, union_of, with_pair, within_of};
 ghost use Rattle.gtid_set.specs.Text.{position_of_text, IsOfText, NamesSeveral};

@@ -1,8 +1,8 @@
 -- Text that is told piece by piece: what is told and what is left are the whole.
 use Rattle.std.proofs.Common.{◌≡◌, ◌∙◌, ℕ, Bool, true, false, List, [], ◌∷◌, ◌++◌, append_assoc, append-nil, refl, sym, ap, subst, Result, Ok, Err}
 use Rattle.std.specs.Prelude.{is_err}
-use Rattle.vdiff_core.specs.Printing.{Written, IsWritten, BreaksOff, Prints, Adds}
-use Rattle.vdiff_core.proofs.PrintLaws.{adds_none, added_more, added_breaks, adding_breaks, adds_then_prints}
+use Rattle.printing.specs.Printing.{Written, IsWritten, BreaksOff, Prints, Adds}
+use Rattle.printing.proofs.PrintLaws.{adds_none, added_more, added_breaks, adding_breaks, adds_then_prints}
 use Rattle.json_pieces.specs.Telling.{LineValue, fresh, Place, at, TellsBy, Tells, IsToldUpTo}
 
 -- ---- the line

@@ -1,6 +1,6 @@
 -- What a line that is told piece by piece leaves on its writer (this profile).
 use Rattle.std.specs.Prelude.{◌≡◌, ℕ, Bool, true, false, List, [], ◌++◌}
-use Rattle.vdiff_core.specs.Printing.{Written, IsAdded, BreaksOff}
+use Rattle.printing.specs.Printing.{Written, IsAdded, BreaksOff}
 
 -- what waits to be written, and whether a write failed
 pub record LineValue : Type 0 where

@@ -12,7 +12,7 @@ use crate::escaped::put_escaped;
 use crate::line::Line;
 use itoa::Buffer;
 use pk_copy::KeyPart;
-use vdiff_core::Out;
+use printing::Out;
 
 /// The digits in lower case.
 const DIGITS: [u8; 16] = *b"0123456789abcdef";

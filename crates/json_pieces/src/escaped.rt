@@ -7,7 +7,7 @@ ghost use Rattle.shown_text.specs.Shown.{printable_byte, shown};
 ghost use Rattle.json_pieces.specs.Telling.{Tells, at};
 
 use crate::line::Line;
-use vdiff_core::Out;
+use printing::Out;
 
 /// How many bytes of a text are shown.
 const SHOWN: usize = 200;

@@ -1,11 +1,11 @@
 //! A line that is told to a writer.
 
 ghost use Rattle.std.specs.Prelude.{◌≡◌, List, ℕ};
-ghost use Rattle.vdiff_core.specs.Printing.{Prints, Written};
+ghost use Rattle.printing.specs.Printing.{Prints, Written};
 ghost use Rattle.json_pieces.specs.Telling.{LineValue, Tells, at, fresh};
 
+use printing::{Gathered, Out, OutFailed};
 use std::marker::Model;
-use vdiff_core::{Gathered, Out, OutFailed};
 
 /// A line that is told to a writer piece by piece. Small pieces wait and are written together; behind a write that failed
 /// nothing more is written. So each piece is simply put, and `finish` says at the end how it went. Seen in contracts as

@@ -11,7 +11,7 @@ use crate::place::put_position;
 use gtid_set::GtidSet;
 use itoa::Buffer;
 use pk_copy::KeyPart;
-use vdiff_core::Out;
+use printing::Out;
 
 /// A piece of JSON, lent.
 #[derive(Drop)]

@@ -10,7 +10,7 @@ use crate::escaped::put_escaped;
 use crate::line::Line;
 use gtid_set::{GtidSet, Interval, uuid_text};
 use itoa::Buffer;
-use vdiff_core::Out;
+use printing::Out;
 
 /// Puts a number.
 fn put_digits<O: Out>(out: &mut O, line: &mut Line, number: u64)

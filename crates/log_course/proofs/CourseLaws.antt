@@ -1,6 +1,6 @@
 -- Groups behind positions, and that the groups that are read are those of the file.
 use Rattle.std.proofs.Common.{◌≡◌, ℕ, Bool, List, [], ◌∷◌, Option, None, Some, Result, Ok, Err, refl, sym, ap, ◌∙◌}
-use Rattle.outcome.specs.Outcome.{◌>>=◌}
+use Rattle.list_laws.specs.Outcome.{◌>>=◌}
 use Rattle.item_readers.specs.Reading.{Reading}
 use Rattle.item_readers.proofs.ReadingLaws.{spells-reading, only_reading}
 use Rattle.gtid_set.specs.declared.interval.Interval.{Interval}

@@ -1,7 +1,7 @@
 -- The groups of logs, one file behind another, each with the position behind it (this profile, after the MySQL manual,
 -- "GTID Sets", and MariaDB's knowledge base, "GTID_LIST_EVENT").
 use Rattle.std.specs.Prelude.{◌≡◌, ℕ, ◌&&◌, if◌then◌else◌, Bool, true, false, List, [], ◌∷◌, Option, None, Some, Result, Ok, Err}
-use Rattle.outcome.specs.Outcome.{◌>>=◌}
+use Rattle.list_laws.specs.Outcome.{◌>>=◌}
 use Rattle.item_readers.specs.Reading.{Reading}
 use Rattle.gtid_set.specs.declared.interval.Interval.{Interval}
 use Rattle.log_events.specs.declared.fault.EventFault.{EventFault}

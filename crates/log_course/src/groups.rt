@@ -2,7 +2,7 @@
 
 ghost use Rattle.std.specs.Prelude.{◌≡◌, IfErr, IfOk, Ok, option_map};
 ghost use Rattle.std.specs.Result.{result_map_both};
-ghost use Rattle.outcome.specs.Outcome.{GivesUnless};
+ghost use Rattle.list_laws.specs.Outcome.{GivesUnless};
 ghost use Rattle.log_events.specs.Log.{LogValue, log_value, log_at};
 ghost use Rattle.log_groups.specs.Step.{gtid_value};
 ghost use Rattle.log_groups.specs.GroupCalls.{group_value};

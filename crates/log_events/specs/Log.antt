@@ -5,7 +5,7 @@ use Rattle.log_events.specs.declared.fault.EventFault.{EventFault}
 use Rattle.log_events.specs.declared.fault.LogFault.{LogFault}
 use Rattle.log_events.specs.declared.fault.LogFault.TheVariants.{NoLog, Encrypted, First, NoDescription, OtherSum}
 use Rattle.log_events.specs.declared.log.Log.{Log}
-use Rattle.outcome.specs.Outcome.{◌>>=◌}
+use Rattle.list_laws.specs.Outcome.{◌>>=◌}
 use Rattle.item_readers.specs.Reading.{Reading}
 use Rattle.log_events.specs.Number.{number}
 use Rattle.log_events.specs.Event.{LogEvent, IsEvent, NoEvent, AreEvents, event_at, events_of}

@@ -1,7 +1,7 @@
 //! One event at the front of the bytes.
 
 ghost use Rattle.std.specs.Prelude.{◌≡◌, ◌+◌, ◌≤◌, length};
-ghost use Rattle.outcome.specs.Outcome.{Gives};
+ghost use Rattle.list_laws.specs.Outcome.{Gives};
 ghost use Rattle.log_events.specs.Event.{log_event, event_in, event_at};
 
 use crate::crc::CrcTable;

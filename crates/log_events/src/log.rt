@@ -1,7 +1,7 @@
 //! The file of a binary log.
 
 ghost use Rattle.std.specs.Prelude.{◌≡◌, ◌∷◌, List, ℕ, Ok, Err};
-ghost use Rattle.outcome.specs.Outcome.{Gives};
+ghost use Rattle.list_laws.specs.Outcome.{Gives};
 ghost use Rattle.log_events.specs.Event.{LogEvent, log_event};
 ghost use Rattle.log_events.specs.Log.{begins, describes, is_format, LogValue, log_value, log_at, IsLog, NoLogFile, AnswersLog};
 ghost use Rattle.log_events.specs.declared.fault.LogFault.{LogFault};

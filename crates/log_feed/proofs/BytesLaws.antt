@@ -7,7 +7,7 @@ use Rattle.vevent.specs.EventValue.{ChangeValue}
 use Rattle.vevent.specs.WrittenEvent.{message_fields, written_column, written_field_event, written_row_event}
 use Rattle.std.proofs.lemmas.List.{at_drop_more}
 use Rattle.std.proofs.lemmas.List.Concat.{flat_map-append}
-use Rattle.outcome.specs.Outcome.{◌>>=◌, Refuses}
+use Rattle.list_laws.specs.Outcome.{◌>>=◌, Refuses}
 use Rattle.item_readers.specs.Reading.{Reading}
 use Rattle.log_values.specs.declared.fault.ValueFault.{ValueFault}
 use Rattle.log_tables.specs.Column.{WantedValue, ColumnValue}

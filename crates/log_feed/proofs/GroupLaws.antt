@@ -2,7 +2,7 @@
 use Rattle.std.proofs.Common.{◌≡◌, ℕ, ◌+◌, ◌<◌, ◌≤◌, true, false, List, [], ◌∷◌, ◌++◌, length, map, drop, get_or, Option, None, Some, Result, Ok, Err, refl, sym, ap, ◌∙◌, append_assoc}
 use Rattle.std.proofs.lemmas.List.{map-append, append-nil, at_drop_more, at_drop_all}
 use Rattle.std.specs.Str.{bytes_eq}
-use Rattle.outcome.specs.Outcome.{◌>>=◌, Refuses, GivesUnless}
+use Rattle.list_laws.specs.Outcome.{◌>>=◌, Refuses, GivesUnless}
 use Rattle.vevent.specs.EventValue.{EventValue}
 use Rattle.vevent.specs.WrittenEvent.{written_event}
 use Rattle.log_groups.specs.Body.{QueryValue}

@@ -5,7 +5,7 @@ use Rattle.std.proofs.lemmas.List.{append-nil}
 use Rattle.std.proofs.lemmas.List.Concat.{flat_map-append}
 use Rattle.std.specs.List.{AllByRecursion}
 use Rattle.std.specs.Prelude.{◌==◌, ◌&&◌, if◌then◌else◌}
-use Rattle.outcome.specs.Outcome.{◌>>=◌}
+use Rattle.list_laws.specs.Outcome.{◌>>=◌}
 use Rattle.item_readers.specs.Reading.{Reading, put_first, reading_within, reading_of}
 use Rattle.proto_wire.specs.Writing.{written_field, written_fields, text_field, message_field}
 use Rattle.row_view.specs.WrittenRow.{packed_fields, length_field, length_fields, written_lengths, written_values, written_row}

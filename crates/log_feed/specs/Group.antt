@@ -1,7 +1,7 @@
 -- What a feed tells of a transaction's changes, under the tables that it has (this profile).
 use Rattle.std.specs.Prelude.{ℕ, ◌+◌, if◌then◌else◌, List, [], ◌∷◌, ◌++◌, map, slice_set, Option, None, Some, Result, Ok, Err}
 use Rattle.std.specs.Str.{bytes_eq}
-use Rattle.outcome.specs.Outcome.{◌>>=◌}
+use Rattle.list_laws.specs.Outcome.{◌>>=◌}
 use Rattle.vevent.specs.EventValue.{EventValue, Begin, Commit, Vgtid}
 use Rattle.vevent.specs.WrittenEvent.{written_event}
 use Rattle.log_tables.specs.TableMap.{MapValue}

@@ -1,6 +1,6 @@
 -- A row event of a log as the event of a feed (`binlogdata.proto`, RowEvent).
 use Rattle.std.specs.Prelude.{ℕ, ◌^◌, ◌&&◌, nat_le, if◌then◌else◌, Bool, true, List, [], ◌∷◌, length, map, Option, None, Some, Result, Ok, Err}
-use Rattle.outcome.specs.Outcome.{◌>>=◌}
+use Rattle.list_laws.specs.Outcome.{◌>>=◌}
 use Rattle.proto_wire.specs.Writing.{written_fields}
 use Rattle.row_view.specs.WrittenRow.{packed_fields}
 use Rattle.vevent.specs.EventValue.{ChangeValue, EventValue, Row, Field}

@@ -1,7 +1,7 @@
 //! The changes of a row event as those of a feed, in bytes.
 
 ghost use Rattle.std.specs.Prelude.{◌≡◌, ◌<◌, ◌++◌, length, map, OnOk};
-ghost use Rattle.outcome.specs.Outcome.{GivesUnless};
+ghost use Rattle.list_laws.specs.Outcome.{GivesUnless};
 ghost use Rattle.proto_wire.specs.Writing.{written_field, message_field};
 ghost use Rattle.log_tables.specs.Column.{column_value};
 ghost use Rattle.log_rows.specs.Change.{changes_of};

@@ -1,7 +1,7 @@
 //! Events of a feed as their bytes.
 
 ghost use Rattle.std.specs.Prelude.{◌≡◌, [], ◌∷◌, map, IfOk, OnOk, ◌++◌};
-ghost use Rattle.outcome.specs.Outcome.{GivesUnless};
+ghost use Rattle.list_laws.specs.Outcome.{GivesUnless};
 ghost use Rattle.proto_wire.specs.Writing.{written_field, written_fields, message_field};
 ghost use Rattle.vevent.specs.EventValue.{Begin, Commit, Vgtid};
 ghost use Rattle.vevent.specs.WrittenEvent.{message_fields, written_column, written_field_event, written_event};

@@ -2,7 +2,7 @@
 
 ghost use Rattle.std.specs.Prelude.{◌≡◌, ◌++◌, [], ◌∷◌, slice_set, map, option_map, OnOk};
 ghost use Rattle.std.specs.Str.{bytes_eq};
-ghost use Rattle.outcome.specs.Outcome.{GivesUnless};
+ghost use Rattle.list_laws.specs.Outcome.{GivesUnless};
 ghost use Rattle.vevent.specs.WrittenEvent.{written_event};
 ghost use Rattle.log_tables.specs.TableMap.{map_value};
 ghost use Rattle.log_rows.specs.Head.{head_value};

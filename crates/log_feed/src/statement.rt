@@ -1,7 +1,7 @@
 //! What a statement that alters tables is to one table.
 
 ghost use Rattle.std.specs.Prelude.{◌≡◌, option_copied};
-ghost use Rattle.outcome.specs.Outcome.{Gives};
+ghost use Rattle.list_laws.specs.Outcome.{Gives};
 ghost use Rattle.log_groups.specs.Body.{query_value};
 ghost use Rattle.log_feed.specs.Statement.{behind_create, names_alone, names_within, names_table, makes, drops_schema, concerns, moves_rows, unfilled_to, alters_to};
 

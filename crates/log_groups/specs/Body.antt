@@ -2,7 +2,7 @@
 -- knowledge base, "GTID_EVENT" and "XA_PREPARE_LOG_EVENT").
 use Rattle.std.specs.Prelude.{ℕ, ◌/◌, ◌%◌, ◌==◌, if◌then◌else◌, Bool, List, Option, Some, None, Result, Ok}
 use Rattle.std.specs.Option.{option_map}
-use Rattle.outcome.specs.Outcome.{◌>>=◌}
+use Rattle.list_laws.specs.Outcome.{◌>>=◌}
 use Rattle.log_events.specs.Number.{number}
 use Rattle.log_tables.specs.declared.fault.TableFault.{TableFault}
 use Rattle.log_tables.specs.Part.{front_at}

@@ -1,6 +1,6 @@
 -- The steps of a log: what each of its events is to a transaction. Events that say nothing of one are none.
 use Rattle.std.specs.Prelude.{◌≡◌, ℕ, if◌then◌else◌, List, [], ◌∷◌, Option, Some, None, Result, Ok, Err}
-use Rattle.outcome.specs.Outcome.{◌>>=◌}
+use Rattle.list_laws.specs.Outcome.{◌>>=◌}
 use Rattle.item_readers.specs.Reading.{Reading}
 use Rattle.log_events.specs.Event.{LogEvent}
 use Rattle.log_events.specs.declared.fault.EventFault.{EventFault}

@@ -1,7 +1,7 @@
 -- The transactions of a log (MariaDB's knowledge base, "GTID_EVENT"; MySQL manual, "Replication Event Checksum and
 -- GTIDs"): a position, what stands in the transaction, and its end.
 use Rattle.std.specs.Prelude.{◌≡◌, ℕ, ◌==◌, ◌⊎◌, if◌then◌else◌, List, [], ◌∷◌, ◌++◌, Option, Some, None, Result, Ok, Err}
-use Rattle.outcome.specs.Outcome.{◌>>=◌}
+use Rattle.list_laws.specs.Outcome.{◌>>=◌}
 use Rattle.item_readers.specs.Reading.{Reading, reading_of, Spells}
 use Rattle.log_tables.specs.TableMap.{MapValue, map_value}
 use Rattle.log_rows.specs.declared.change.RowsKind.{RowsKind}

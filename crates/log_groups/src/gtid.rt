@@ -1,7 +1,7 @@
 //! Positions of transactions.
 
 ghost use Rattle.std.specs.Prelude.{◌≡◌, option_map};
-ghost use Rattle.outcome.specs.Outcome.{Gives};
+ghost use Rattle.list_laws.specs.Outcome.{Gives};
 ghost use Rattle.log_groups.specs.Body.{xid_value, maybe_xid, behind_commit, maria_value, maria_at, mysql_value, mysql_at};
 
 use crate::xid::{Xid, xid_of};

@@ -1,7 +1,7 @@
 //! What an event is to a transaction.
 
 ghost use Rattle.std.specs.Prelude.{◌≡◌, option_map};
-ghost use Rattle.outcome.specs.Outcome.{Gives};
+ghost use Rattle.list_laws.specs.Outcome.{Gives};
 ghost use Rattle.log_events.specs.Event.{log_event};
 ghost use Rattle.log_groups.specs.Body.{query_value};
 ghost use Rattle.log_groups.specs.Step.{step_value, said, step_of, steps_of, NextStep};

@@ -3,7 +3,7 @@
 ghost use Rattle.std.specs.Prelude.{◌≡◌, map, is_some, option_map};
 ghost use Rattle.std.specs.List.{list_any};
 ghost use Rattle.std.specs.Result.{result_map_both};
-ghost use Rattle.outcome.specs.Outcome.{Gives};
+ghost use Rattle.list_laws.specs.Outcome.{Gives};
 ghost use Rattle.log_groups.specs.Body.{xid_value};
 ghost use Rattle.log_groups.specs.Step.{gtid_value};
 ghost use Rattle.log_groups.specs.Transaction.{done_value};

@@ -1,7 +1,7 @@
 //! XA transactions.
 
 ghost use Rattle.std.specs.Prelude.{◌≡◌};
-ghost use Rattle.outcome.specs.Outcome.{Gives};
+ghost use Rattle.list_laws.specs.Outcome.{Gives};
 ghost use Rattle.log_events.specs.Number.{size_of};
 ghost use Rattle.log_groups.specs.Body.{xid_value, xid_at, prepared_value, prepared_at};
 

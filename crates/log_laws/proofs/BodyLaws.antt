@@ -11,7 +11,7 @@ use Rattle.std.specs.Option.{option_or}
 use Rattle.std.specs.Str.{bytes_eq, is_utf8}
 use Rattle.std.specs.Cmp.Lexicographic.{same_text}
 use Rattle.list_laws.proofs.Fronts.{All-append}
-use Rattle.outcome.specs.Outcome.{◌>>=◌}
+use Rattle.list_laws.specs.Outcome.{◌>>=◌}
 use Rattle.row_view.specs.FieldValue.{FieldValue}
 use Rattle.vevent.specs.Columns.{have_columns}
 use Rattle.vevent.specs.EventValue.{ChangeValue, EventValue, Begin, Row, Field}

@@ -10,7 +10,7 @@ use Rattle.std.specs.Prelude.{IsTrue, ◌↔◌, ◌&&◌, nat_le, if◌then◌e
 use Rattle.std.specs.Option.{option_or}
 use Rattle.std.specs.Str.{bytes_eq, is_utf8}
 use Rattle.list_laws.proofs.Fronts.{All-append}
-use Rattle.outcome.specs.Outcome.{◌>>=◌}
+use Rattle.list_laws.specs.Outcome.{◌>>=◌}
 use Rattle.gtid_set.specs.declared.interval.Interval.{Interval}
 use Rattle.gtid_set.specs.declared.fault.GtidFault.{GtidFault}
 use Rattle.gtid_set.specs.Position.{IsCanonical, IsWithin, within_of, union_of}

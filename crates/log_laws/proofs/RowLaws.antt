@@ -3,7 +3,7 @@ use Rattle.std.proofs.Common.{◌≡◌, ℕ, ◌+◌, ◌≤◌, ◌^◌, zero,
 use Rattle.std.proofs.lemmas.Bool.{leb-true, le-ltb, eq-eqb, eqb-true, and_from, and_parts}
 use Rattle.std.specs.List.{AllByRecursion, list_all, list_any}
 use Rattle.std.specs.Prelude.{◌==◌, ◌&&◌, not, if◌then◌else◌, IfSome}
-use Rattle.outcome.specs.Outcome.{◌>>=◌}
+use Rattle.list_laws.specs.Outcome.{◌>>=◌}
 use Rattle.item_readers.specs.Reading.{Reading, put_first, reading_within, reading_of}
 use Rattle.proto_wire.specs.Writing.{written_fields, text_field}
 use Rattle.row_view.specs.WrittenRow.{packed_fields, length_field, length_fields, written_lengths, written_values, written_row, IsWithinLimits}

@@ -2,7 +2,7 @@
 use Rattle.std.proofs.Common.{◌≡◌, Bool, true, false, List, [], ◌∷◌, ◌++◌, reverse, Result, Ok, Err, refl, sym, ap, ◌∙◌, append_assoc}
 use Rattle.std.specs.Prelude.{if◌then◌else◌}
 use mathlib.Core.List.{reverse-cons}
-use Rattle.outcome.specs.Outcome.{◌>>=◌}
+use Rattle.list_laws.specs.Outcome.{◌>>=◌}
 
 -- both steps gave something
 pub given : {A B F : Type 0} (r : Result A F) (next : A → Result B F) (y : B) → r >>= next ≡ Ok y → (x : A) × (r ≡ Ok x) × (next x ≡ Ok y)

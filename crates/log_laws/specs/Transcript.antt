@@ -2,7 +2,7 @@
 -- its changes and the position behind it; and at the end one for the position that was reached, where the last message has
 -- another.
 use Rattle.std.specs.Prelude.{ℕ, nat_le, Bool, true, false, List, [], ◌∷◌, ◌++◌, length, map, Result, Ok, Err, if◌then◌else◌}
-use Rattle.outcome.specs.Outcome.{◌>>=◌}
+use Rattle.list_laws.specs.Outcome.{◌>>=◌}
 use Rattle.gtid_set.specs.declared.interval.Interval.{Interval}
 use Rattle.gtid_set.specs.Printed.{printed_position}
 use Rattle.gtid_set.specs.Text.{text_limit}

@@ -1,7 +1,7 @@
 -- The positions with which a log begins (MariaDB's knowledge base, "GTID_LIST_EVENT"; MySQL internals manual,
 -- "PREVIOUS_GTIDS_LOG_EVENT").
 use Rattle.std.specs.Prelude.{ℕ, zero, suc, ◌-◌, ◌%◌, ◌^◌, ◌==◌, if◌then◌else◌, List, [], ◌∷◌, Option, Some, None, Result, Ok, Err}
-use Rattle.outcome.specs.Outcome.{◌>>=◌}
+use Rattle.list_laws.specs.Outcome.{◌>>=◌}
 use Rattle.gtid_set.specs.declared.interval.Interval.{Interval}
 use Rattle.gtid_set.specs.Position.{union_of}
 use Rattle.log_events.specs.Number.{number}

@@ -1,6 +1,6 @@
 -- Positions of groups one after another, and of logs (this profile).
 use Rattle.std.specs.Prelude.{◌≡◌, if◌then◌else◌, List, [], ◌∷◌, Result, Ok, Err}
-use Rattle.outcome.specs.Outcome.{◌>>=◌}
+use Rattle.list_laws.specs.Outcome.{◌>>=◌}
 use Rattle.gtid_set.specs.declared.interval.Interval.{Interval}
 use Rattle.gtid_set.specs.Position.{IsCanonical, IsWithin, union_of, within_of, same_set}
 use Rattle.log_events.specs.Event.{LogEvent}

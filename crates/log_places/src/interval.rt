@@ -1,7 +1,7 @@
 //! What a transaction adds to the position before it.
 
 ghost use Rattle.std.specs.Prelude.{◌≡◌, ◌<◌, ◌^◌, ◌∷◌, [], IfOk};
-ghost use Rattle.outcome.specs.Outcome.{Gives};
+ghost use Rattle.list_laws.specs.Outcome.{Gives};
 ghost use Rattle.gtid_set.specs.Position.{IsInterval, union_of};
 ghost use Rattle.log_groups.specs.Step.{gtid_value};
 ghost use Rattle.log_places.specs.Added.{uuid_of, domain_uuid, span, single, added_by};

@@ -1,7 +1,7 @@
 //! The positions with which a log begins.
 
 ghost use Rattle.std.specs.Prelude.{◌≡◌, [], IfOk};
-ghost use Rattle.outcome.specs.Outcome.{Gives, GivesUnless};
+ghost use Rattle.list_laws.specs.Outcome.{Gives, GivesUnless};
 ghost use Rattle.gtid_set.specs.Position.{IsInterval};
 ghost use Rattle.log_events.specs.Event.{log_event};
 ghost use Rattle.log_places.specs.Fault.{meant, of_part};

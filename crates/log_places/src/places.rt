@@ -1,6 +1,6 @@
 //! Positions of groups one after another, and of logs.
 
-ghost use Rattle.outcome.specs.Outcome.{GivesUnless};
+ghost use Rattle.list_laws.specs.Outcome.{GivesUnless};
 ghost use Rattle.log_events.specs.Event.{log_event};
 ghost use Rattle.log_groups.specs.Step.{gtid_value};
 ghost use Rattle.log_places.specs.Fault.{meant};

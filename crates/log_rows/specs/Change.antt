@@ -1,6 +1,6 @@
 -- The changes of a row event, one behind another.
 use Rattle.std.specs.Prelude.{ℕ, List, Option, Some, None, Result, Ok}
-use Rattle.outcome.specs.Outcome.{◌>>=◌}
+use Rattle.list_laws.specs.Outcome.{◌>>=◌}
 use Rattle.item_readers.specs.Reading.{Reading, reading_of}
 use Rattle.log_values.specs.declared.fault.ValueFault.{ValueFault}
 use Rattle.log_tables.specs.Column.{ColumnValue}

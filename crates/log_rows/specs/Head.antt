@@ -1,6 +1,6 @@
 -- What stands before the rows of a row event (MySQL internals manual, "ROWS_EVENT").
 use Rattle.std.specs.Prelude.{ℕ, zero, suc, ◌-◌, ◌==◌, ◌&&◌, if◌then◌else◌, nat_lt, Bool, true, false, List, Option, Some, None, Result, Ok, Err}
-use Rattle.outcome.specs.Outcome.{◌>>=◌}
+use Rattle.list_laws.specs.Outcome.{◌>>=◌}
 use Rattle.log_events.specs.Number.{number}
 use Rattle.log_tables.specs.Part.{front_at, packed_at}
 use Rattle.log_rows.specs.declared.fault.RowFault.{RowFault}

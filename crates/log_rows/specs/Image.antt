@@ -1,7 +1,7 @@
 -- A row in the log (MySQL internals manual, "ROWS_EVENT"): a bit for each column, and the values of those that
 -- aren't NULL.
 use Rattle.std.specs.Prelude.{ℕ, ◌+◌, ◌/◌, ◌%◌, ◌^◌, ◌==◌, if◌then◌else◌, nat_lt, Bool, true, false, List, [], ◌∷◌, length, take, drop, slice_index, Option, Some, None, Result, Ok, Err}
-use Rattle.outcome.specs.Outcome.{◌>>=◌}
+use Rattle.list_laws.specs.Outcome.{◌>>=◌}
 use Rattle.log_values.specs.declared.fault.ValueFault.{ValueFault}
 use Rattle.log_values.specs.declared.fault.ValueFault.TheVariants.{CutValue}
 use Rattle.log_values.specs.Value.{value_at}

@@ -1,7 +1,7 @@
 //! What stands before the rows of a row event.
 
 ghost use Rattle.std.specs.Prelude.{◌≡◌};
-ghost use Rattle.outcome.specs.Outcome.{Gives};
+ghost use Rattle.list_laws.specs.Outcome.{Gives};
 ghost use Rattle.log_rows.specs.Head.{kind_of_event, head_value, more_at, after_at, head_at, are_all, has_all};
 
 use crate::change::RowsKind;

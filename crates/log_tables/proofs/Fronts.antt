@@ -1,6 +1,6 @@
 -- What is read so far, before what is read of the rest.
 use Rattle.std.proofs.Common.{◌≡◌, List, [], ◌∷◌, ◌++◌, append_assoc, Result, Ok, Err, refl, ap}
-use Rattle.outcome.specs.Outcome.{◌>>=◌}
+use Rattle.list_laws.specs.Outcome.{◌>>=◌}
 
 -- items before those that are read, and the same of items with what stands behind them
 abbrev pub with_front : {X F : Type 0} → List X → Result (List X) F → Result (List X) F

@@ -1,7 +1,7 @@
 -- Columns and their names one on.
 use Rattle.std.proofs.Common.{◌≡◌, ℕ, ◌+◌, ◌<◌, ◌≤◌, Bool, true, false, eqb, List, [], ◌∷◌, ◌++◌, length, map, drop, get_or, length-drop, Result, Ok, Err, refl, sym, ap, ◌∙◌, arith}
 use Rattle.std.proofs.lemmas.List.{append-nil, drop_more, drop_all}
-use Rattle.outcome.specs.Outcome.{◌>>=◌, Refuses}
+use Rattle.list_laws.specs.Outcome.{◌>>=◌, Refuses}
 use Rattle.log_tables.specs.declared.fault.TableFault.{TableFault}
 use Rattle.log_tables.specs.declared.fault.TableFault.TheVariants.{CutBody, OtherColumns}
 use Rattle.log_tables.specs.declared.fault.TableError.{TableError}

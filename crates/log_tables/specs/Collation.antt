@@ -1,7 +1,7 @@
 -- The collations of the columns of ENUM and of SET, as a server tells them (MySQL internals manual, "TABLE_MAP_EVENT",
 -- optional metadata: ENUM_AND_SET_DEFAULT_CHARSET, 10, and ENUM_AND_SET_COLUMN_CHARSET, 11).
 use Rattle.std.specs.Prelude.{ℕ, ◌+◌, ◌==◌, ◌&&◌, ◌||◌, ◌%◌, Bool, true, false, if◌then◌else◌, List, [], ◌∷◌, Option, Some, None, option_and_then, Result, Ok}
-use Rattle.outcome.specs.Outcome.{◌>>=◌}
+use Rattle.list_laws.specs.Outcome.{◌>>=◌}
 use Rattle.log_values.specs.declared.comma.Comma.{Comma}
 use Rattle.log_values.specs.Comma.{comma_of}
 use Rattle.log_tables.specs.declared.fault.TableFault.{TableFault}

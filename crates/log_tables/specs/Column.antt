@@ -1,7 +1,7 @@
 -- The columns of a table map, under what the workflow says of the table.
 use Rattle.std.specs.Prelude.{ℕ, ◌+◌, ◌==◌, ◌&&◌, ◌||◌, not, nat_lt, if◌then◌else◌, Bool, true, List, [], ◌∷◌, length, map, Option, Some, None, Result, Ok, Err}
 use Rattle.std.specs.List.{list_any}
-use Rattle.outcome.specs.Outcome.{◌>>=◌}
+use Rattle.list_laws.specs.Outcome.{◌>>=◌}
 use Rattle.log_events.specs.Number.{number}
 use Rattle.log_values.specs.declared.kind.Kind.{Kind}
 use Rattle.log_values.specs.declared.kind.Kind.TheVariants.{Signed, Unsigned, Counted, Padded, Bits, Decimal, Date, Year, DateTime, Time, Timestamp, Label, Labels}

@@ -2,7 +2,7 @@
 -- (MySQL internals manual, "TABLE_MAP_EVENT", optional metadata).
 use Rattle.std.specs.Prelude.{ℕ, zero, suc, ◌-◌, ◌/◌, ◌%◌, ◌^◌, ◌==◌, ◌&&◌, if◌then◌else◌, Bool, false, List, [], ◌∷◌, length, slice_index, Option, Some, None, Result, Ok, Err}
 use Rattle.std.specs.Str.{bytes_eq}
-use Rattle.outcome.specs.Outcome.{◌>>=◌}
+use Rattle.list_laws.specs.Outcome.{◌>>=◌}
 use Rattle.item_readers.specs.Reading.{reading_of}
 use Rattle.log_events.specs.Number.{number}
 use Rattle.log_tables.specs.declared.fault.TableFault.{TableFault}

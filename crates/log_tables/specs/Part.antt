@@ -1,7 +1,7 @@
 -- Parts of an event's body: so many bytes; a number that tells its own size; bytes behind their count (MySQL
 -- internals manual, "Protocol::LengthEncodedInteger" and "Protocol::LengthEncodedString").
 use Rattle.std.specs.Prelude.{ℕ, ◌==◌, if◌then◌else◌, nat_lt, List, [], ◌∷◌, length, take, drop, Result, Ok, Err}
-use Rattle.outcome.specs.Outcome.{◌>>=◌}
+use Rattle.list_laws.specs.Outcome.{◌>>=◌}
 use Rattle.log_events.specs.Number.{number}
 use Rattle.log_tables.specs.declared.fault.TableFault.{TableFault}
 use Rattle.log_tables.specs.declared.fault.TableFault.TheVariants.{CutBody}

@@ -1,6 +1,6 @@
 -- The body of a table map (MySQL internals manual, "TABLE_MAP_EVENT").
 use Rattle.std.specs.Prelude.{ℕ, ◌+◌, ◌/◌, ◌==◌, if◌then◌else◌, List, length, Result, Ok, Err}
-use Rattle.outcome.specs.Outcome.{◌>>=◌}
+use Rattle.list_laws.specs.Outcome.{◌>>=◌}
 use Rattle.log_events.specs.Number.{number}
 use Rattle.log_tables.specs.declared.fault.TableFault.{TableFault}
 use Rattle.log_tables.specs.declared.fault.TableFault.TheVariants.{CutBody}

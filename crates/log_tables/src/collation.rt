@@ -1,7 +1,7 @@
 //! Collations of columns of ENUM and of SET.
 
 ghost use Rattle.std.specs.Prelude.{◌≡◌, ◌≤◌, ◌<◌, ◌+◌, ◌^◌, IfOk, Some};
-ghost use Rattle.outcome.specs.Outcome.{Gives};
+ghost use Rattle.list_laws.specs.Outcome.{Gives};
 ghost use Rattle.log_tables.specs.Collation.{collations_value, collations_at, next_of_each, next_of_most, is_labelled, collation_at, comma_told};
 
 use crate::fault::TableFault;

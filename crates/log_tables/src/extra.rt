@@ -1,7 +1,7 @@
 //! What a server may tell of columns beyond their types.
 
 ghost use Rattle.std.specs.Prelude.{◌≡◌, ◌==◌, if◌then◌else◌};
-ghost use Rattle.outcome.specs.Outcome.{Gives};
+ghost use Rattle.list_laws.specs.Outcome.{Gives};
 ghost use Rattle.log_tables.specs.Extra.{ExtraPart, part_at, part_of};
 
 use crate::fault::TableFault;

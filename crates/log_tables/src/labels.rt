@@ -1,7 +1,7 @@
 //! Labels of ENUM and SET.
 
 ghost use Rattle.std.specs.Prelude.{◌≡◌, ◌++◌, [], ◌∷◌, map, OnOk};
-ghost use Rattle.outcome.specs.Outcome.{GivesUnless};
+ghost use Rattle.list_laws.specs.Outcome.{GivesUnless};
 ghost use Rattle.log_tables.specs.Fault.{meant};
 ghost use Rattle.log_tables.specs.Extra.{texts_at, labels_at};
 

@@ -1,7 +1,7 @@
 //! The body of a table map.
 
 ghost use Rattle.std.specs.Prelude.{◌≡◌};
-ghost use Rattle.outcome.specs.Outcome.{Gives};
+ghost use Rattle.list_laws.specs.Outcome.{Gives};
 ghost use Rattle.log_tables.specs.TableMap.{name_at, map_at, map_value};
 
 use crate::fault::TableFault;

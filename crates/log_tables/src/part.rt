@@ -1,7 +1,7 @@
 //! Parts of an event's body.
 
 ghost use Rattle.std.specs.Prelude.{◌≡◌};
-ghost use Rattle.outcome.specs.Outcome.{Gives};
+ghost use Rattle.list_laws.specs.Outcome.{Gives};
 ghost use Rattle.log_events.specs.Number.{size_of};
 ghost use Rattle.log_tables.specs.Part.{front_at, wide_at, packed_at, counted_at};
 

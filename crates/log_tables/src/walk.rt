@@ -2,7 +2,7 @@
 
 ghost use Rattle.std.specs.Prelude.{◌≡◌, ◌==◌, ◌<◌, ◌≤◌, ◌+◌, ◌^◌, ◌++◌, [], ◌∷◌, map, IfOk, OnOk};
 ghost use Rattle.std.specs.List.{list_any};
-ghost use Rattle.outcome.specs.Outcome.{Gives, GivesUnless};
+ghost use Rattle.list_laws.specs.Outcome.{Gives, GivesUnless};
 ghost use Rattle.log_tables.specs.Fault.{meant};
 ghost use Rattle.log_tables.specs.TableMap.{map_value};
 ghost use Rattle.log_tables.specs.Column.{is_all_told, wanted_value, column_value, told_value, with_labels, kind_there, column_at, columns_in, signs_told, columns_of};

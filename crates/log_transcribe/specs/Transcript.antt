@@ -1,6 +1,6 @@
 -- The feed of logs, one file behind another (this profile): what is told of their transactions, or the first fault.
 use Rattle.std.specs.Prelude.{ℕ, ◌+◌, ◌^◌, nat_lt, true, List, [], ◌∷◌, ◌++◌, length, map, replicate, Option, None, Some, Result, Ok, Err, if◌then◌else◌}
-use Rattle.outcome.specs.Outcome.{◌>>=◌}
+use Rattle.list_laws.specs.Outcome.{◌>>=◌}
 use Rattle.item_readers.specs.Reading.{Reading}
 use Rattle.vevent.specs.EventValue.{EventValue}
 use Rattle.log_course.specs.declared.fault.CourseFault.{CourseFault}

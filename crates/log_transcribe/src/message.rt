@@ -1,7 +1,7 @@
 //! Messages of a feed.
 
 ghost use Rattle.std.specs.Prelude.{◌≡◌, ◌++◌, ◌∷◌, [], map, string_bytes, IfOk, OnOk};
-ghost use Rattle.outcome.specs.Outcome.{GivesUnless};
+ghost use Rattle.list_laws.specs.Outcome.{GivesUnless};
 ghost use Rattle.gtid_set.specs.Printed.{printed_position};
 ghost use Rattle.event_laws.specs.WrittenMessages.{written_response, framed};
 ghost use Rattle.log_laws.specs.Transcript.{place_told};

@@ -1,7 +1,7 @@
 //! The feed of logs.
 
 ghost use Rattle.std.specs.Prelude.{◌≡◌, ◌++◌, [], ◌∷◌, List, length, map, replicate, option_map, IfOk, OnOk};
-ghost use Rattle.outcome.specs.Outcome.{GivesUnless};
+ghost use Rattle.list_laws.specs.Outcome.{GivesUnless};
 ghost use Rattle.log_feed.specs.declared.table.Stage.TheVariants.{Absent};
 ghost use Rattle.log_course.specs.Calls.{placed_value};
 ghost use Rattle.log_laws.specs.Source.{IsSource};

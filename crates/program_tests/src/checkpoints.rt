@@ -2,10 +2,10 @@
 
 use crate::feeds::{ONE_ROW, inputs_over};
 use crate::printed::is_told;
+use printing::Writer;
 use std::alloc::{AllocError, Global};
 use std::io::Cursor;
 use std::test::Fail;
-use vdiff_core::Writer;
 use vrepl_main::save;
 
 /// The checkpoint of the board that has copied and applied the group of one row.

@@ -1,8 +1,9 @@
 //! What is printed into writers.
 
+use dump::add_cell;
+use printing::{Gathered, Writer, put_all};
 use row_view::Column;
 use std::io::Cursor;
-use vdiff_core::{Gathered, Writer, add_cell, put_all};
 
 /// Whether three bytes are put into this room.
 fn puts_abc(room: &mut [u8]) -> bool {

@@ -4,10 +4,10 @@ use crate::checkpoints::SAVED;
 use crate::feeds::{LOWER, ONE_ROW, inputs_over};
 use crate::printed::{is_cut, is_done};
 use pace::Unmetered;
+use printing::Writer;
 use std::alloc::{AllocError, Global};
 use std::io::Cursor;
 use std::test::Fail;
-use vdiff_core::Writer;
 use vrepl_main::{ResumeInputs, resume, step};
 
 /// The status of `step` over one feed, with its replies in `out` and its line on standard error in `err`.

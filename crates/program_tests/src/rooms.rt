@@ -3,10 +3,10 @@
 use crate::feeds::ONE_ROW;
 use crate::printed::is_cut;
 use pace::Unmetered;
+use printing::Writer;
 use std::alloc::{AllocError, Global};
 use std::io::Cursor;
 use std::test::Fail;
-use vdiff_core::Writer;
 use vrepl_choices::FeedForm;
 use vrepl_main::{show, vdiff};
 

@@ -2,13 +2,13 @@
 
 use crate::feeds::{LOWER, SAME_KEY, TWO, feeds_of};
 use crate::printed::is_printed;
+use printing::Writer;
 use std::alloc::{AllocError, Global};
 use std::io::Cursor;
 use std::sync::Wait;
 use std::test::*;
 use std::thread::Threads;
 use stream_worker::Policy;
-use vdiff_core::Writer;
 use vrepl_choices::{FeedForm, Threading};
 use vrepl_main::{RunCourse, RunInputs, Untold, run};
 

@@ -5,7 +5,7 @@ use Rattle.std.proofs.lemmas.List.{length-append, length-take, length-drop, take
 use Rattle.proto_wire.specs.declared.fault.WireFault.{WireFault}
 use Rattle.proto_wire.specs.declared.fault.WireFault.TheVariants.{Truncated, GroupWireType, BadWireType, BadFieldNumber}
 use Rattle.proto_wire.specs.declared.fault.FrameFault.{FrameFault}
-use Rattle.outcome.specs.Outcome.{◌>>=◌}
+use Rattle.list_laws.specs.Outcome.{◌>>=◌}
 use Rattle.proto_wire.specs.Varint.{IsVarint, NoVarint, varint_at}
 use Rattle.proto_wire.specs.Field.{WireValue, Varint, Eight, Bytes, Four, WireField, wire_type, IsPayload, IsFieldNumber, IsField, NoPayload, NoFieldBehind, NoField, bytes_at, sized_at, number_at, payload_at, field_with, field_behind, field_at}
 use Rattle.proto_wire.specs.Frame.{IsFrame, NoFrame, located, frame_at}

@@ -6,7 +6,7 @@ use Rattle.proto_wire.specs.declared.fault.WireFault.TheVariants.{Truncated, Bad
 use Rattle.proto_wire.specs.declared.field.Payload.{Payload}
 use Rattle.proto_wire.specs.declared.field.Payload.TheVariants as payload
 use Rattle.proto_wire.specs.declared.field.Field.{Field}
-use Rattle.outcome.specs.Outcome.{◌>>=◌}
+use Rattle.list_laws.specs.Outcome.{◌>>=◌}
 use Rattle.proto_wire.specs.Reading.{Reading, reading_of, Spells}
 use Rattle.proto_wire.specs.Varint.{IsVarint, NoVarint, varint_at}
 

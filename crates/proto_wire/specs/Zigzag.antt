@@ -1,6 +1,6 @@
 -- Signed numbers as unsigned ones: 0, -1, 1, -2 are 0, 1, 2, 3 (protobuf encoding guide, "Signed Integers").
 use Rattle.std.specs.Prelude.{ℕ, ℤ, pos, negsuc, ◌+◌, ◌*◌, ◌/◌, ◌%◌, ◌==◌, if◌then◌else◌, List, Result, Ok}
-use Rattle.outcome.specs.Outcome.{◌>>=◌}
+use Rattle.list_laws.specs.Outcome.{◌>>=◌}
 use Rattle.proto_wire.specs.declared.fault.WireFault.{WireFault}
 use Rattle.proto_wire.specs.Varint.{varint_at}
 

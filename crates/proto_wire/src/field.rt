@@ -2,7 +2,7 @@
 
 ghost use Rattle.std.specs.Prelude.{◌≡◌, Ok, IfSome};
 ghost use Rattle.std.specs.Option.{option_map};
-ghost use Rattle.outcome.specs.Outcome.{Gives};
+ghost use Rattle.list_laws.specs.Outcome.{Gives};
 ghost use Rattle.proto_wire.specs.Field.{wire_value, wire_field, bytes_at, sized_at, number_at, payload_at, field_at};
 
 use crate::fault::WireFault;

@@ -1,7 +1,7 @@
 //! Signed numbers as unsigned ones.
 
 ghost use Rattle.std.specs.Prelude.{◌≡◌};
-ghost use Rattle.outcome.specs.Outcome.{Gives};
+ghost use Rattle.list_laws.specs.Outcome.{Gives};
 ghost use Rattle.proto_wire.specs.Zigzag.{zigzag_of, unzigzag_of, sint64_at};
 
 use crate::fault::WireFault;

@@ -1,7 +1,7 @@
 //! One varint at the front of the bytes.
 
 ghost use Rattle.std.specs.Prelude.{◌≡◌, Ok, IfSome};
-ghost use Rattle.outcome.specs.Outcome.{Gives};
+ghost use Rattle.list_laws.specs.Outcome.{Gives};
 ghost use Rattle.proto_wire.specs.Varint.{varint_at};
 
 use crate::fault::WireFault;

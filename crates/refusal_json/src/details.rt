@@ -10,7 +10,7 @@ ghost use Rattle.refusal_json.specs.Details.{detail_value, details_members, deta
 ghost use Rattle.refusal_json.specs.Private.Parts.{member_if, member_part};
 
 use json_pieces::{Line, Piece, put_comma_if, put_pieces};
-use vdiff_core::Out;
+use printing::Out;
 
 /// What a word tells.
 #[derive(Clone, Copy)]

@@ -1,7 +1,7 @@
 //! What a number means, as JSON.
 
 ghost use Rattle.std.specs.Prelude.{List, ℕ, ◌≡◌, ◌++◌};
-ghost use Rattle.vdiff_core.specs.Printing.{Prints};
+ghost use Rattle.printing.specs.Printing.{Prints};
 ghost use Rattle.json_pieces.specs.Pieces.{pieces_text};
 ghost use Rattle.json_pieces.specs.Telling.{Tells, at};
 ghost use Rattle.refusal_words.specs.Texts.{has_text};
@@ -11,8 +11,8 @@ ghost use Rattle.refusal_json.specs.Refusal.{json_line};
 use crate::meaning::meaning_of;
 use crate::parts::{Parts, parts_of};
 use json_pieces::{Line, Piece, put_pieces};
+use printing::{Out, OutFailed};
 use refusal_words::texts::{explained, has_text};
-use vdiff_core::{Out, OutFailed};
 
 /// All numbers are below this one.
 const NUMBERS: u64 = 256;

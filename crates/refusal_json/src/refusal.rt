@@ -1,7 +1,7 @@
 //! The line of a refusal.
 
 ghost use Rattle.std.specs.Prelude.{◌≡◌, option_map};
-ghost use Rattle.vdiff_core.specs.Printing.{Prints};
+ghost use Rattle.printing.specs.Printing.{Prints};
 ghost use Rattle.serde_json.specs.Written.{compact_text};
 ghost use Rattle.json_pieces.specs.Pieces.{piece_text, pieces_text};
 ghost use Rattle.json_pieces.specs.Telling.{Tells, at};
@@ -12,7 +12,7 @@ ghost use Rattle.refusal_json.specs.Refusal.{place_data, refusal_json};
 use crate::details::{Details, put_details};
 use crate::meaning::meaning_of;
 use json_pieces::{Line, Piece, put_pieces};
-use vdiff_core::{Out, OutFailed};
+use printing::{Out, OutFailed};
 
 /// A place as a piece of JSON: null where none is told.
 fn place_piece(place: Option<&str>) -> Piece<'_>

@@ -1,8 +1,8 @@
 //! What is made of two dumps.
 
 use crate::setup::{SOURCE, TARGET, plan};
+use dump::read_dump;
 use std::alloc::Global;
-use vdiff_core::read_dump;
 use vdiff_sql::repair_text;
 use vdiff_text::differences_text;
 

@@ -20,8 +20,8 @@ use Rattle.source_feed.specs.History.{touches_in, passing, kept_of, kept_at}
 use Rattle.source_feed.specs.Planned.{FeedValue, PlannedGroupValue, planned_group, groups_under, source_of}
 use Rattle.source_feed.specs.SoundGroups.{sound_groups}
 use Rattle.source_feed.specs.Touches.{PutValue, PreparedValue, prepared}
-use Rattle.vdiff_core.specs.DumpRowsValue.{DumpRowsValue}
-use Rattle.vdiff_core.specs.Dump.{dump_of}
+use Rattle.dump.specs.DumpRowsValue.{DumpRowsValue}
+use Rattle.dump.specs.Dump.{dump_of}
 use Rattle.vrepl_choices.specs.UntilValue.{UntilValue}
 use Rattle.feed_ends.specs.AtPosition.{lies_within}
 use Rattle.feed_ends.specs.Positions.{text_for}

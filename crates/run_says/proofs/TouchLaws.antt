@@ -4,7 +4,7 @@ use Rattle.std.specs.Prelude.{MatchOption, option_map, ok_or, is_none, ◌||◌,
 use Rattle.std.specs.List.{AllByRecursion, flat_map, filter_map, cons_option, list_any}
 use Rattle.std.specs.Result.{ok_prefix}
 use Rattle.std.specs.Int.{w64, to_be_bytes, reverse_bits}
-use Rattle.outcome.specs.Outcome.{◌>>=◌}
+use Rattle.list_laws.specs.Outcome.{◌>>=◌}
 use Rattle.md5.specs.Md5.{md5}
 use Rattle.des.specs.Des.{enciphered}
 use Rattle.proto_wire.proofs.FieldLaws.{bind_ok}

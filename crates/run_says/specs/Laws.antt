@@ -18,8 +18,8 @@ use Rattle.source_feed.specs.Planned.{FeedValue, groups_under}
 use Rattle.source_feed.specs.SoundGroups.{sound_groups}
 use Rattle.vrepl_choices.specs.UntilValue.{UntilValue}
 use Rattle.feed_ends.specs.EndedFeeds.{IsEndedBy, AreEnded}
-use Rattle.vdiff_core.specs.Dump.{dump_of}
-use Rattle.vdiff_core.specs.DumpRowsValue.{DumpRowsValue, row_with_key}
+use Rattle.dump.specs.Dump.{dump_of}
+use Rattle.dump.specs.DumpRowsValue.{DumpRowsValue, row_with_key}
 use Rattle.run_says.specs.Messages.{SaysRow, SaysEvent, HasEvents}
 use Rattle.run_says.specs.Positions.{IsPositionText}
 use Rattle.run_says.specs.Rules.{SaysFilter}

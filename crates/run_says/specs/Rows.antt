@@ -8,7 +8,7 @@ use Rattle.pk_copy.specs.KeyValue.{KeyValue}
 use Rattle.target_tables.specs.Rising.{IsRising}
 use Rattle.target_tables.specs.Touches.{last_at}
 use Rattle.source_feed.specs.Touches.{PutValue, TouchValue}
-use Rattle.vdiff_core.specs.DumpRowsValue.{DumpRowsValue, row_with_key}
+use Rattle.dump.specs.DumpRowsValue.{DumpRowsValue, row_with_key}
 
 -- a stream: which rows and columns it keeps, and what its feed's changes do, in order
 pub record Stream : Type 0 where

@@ -3,8 +3,8 @@
 use Rattle.std.specs.Prelude.{◌≡◌, ℕ, List, map, length, Some, slice_get}
 use Rattle.vrepl_choices.specs.UntilValue.{UntilValue}
 use Rattle.feed_ends.specs.Positions.{text_for}
-use Rattle.vdiff_core.specs.Dump.{dump_of}
-use Rattle.vdiff_core.specs.DumpRowsValue.{DumpRowsValue}
+use Rattle.dump.specs.Dump.{dump_of}
+use Rattle.dump.specs.DumpRowsValue.{DumpRowsValue}
 use Rattle.run_says.specs.Says.{SaysTouches}
 use Rattle.run_says.specs.Workflow.{SaysPlans}
 use Rattle.run_says.specs.Rows.{Stream, AreKeptRows}

@@ -4,7 +4,7 @@ use Rattle.std.specs.List.{list_all}
 use Rattle.std.specs.Str.{is_utf8}
 use Rattle.row_view.specs.FieldValue.{FieldValue}
 use Rattle.serde_json.specs.Data.{Data, null, string, object, Members, no_members, member}
-use Rattle.vdiff_core.specs.Cells.{cell}
+use Rattle.dump.specs.Cells.{cell}
 
 -- a byte that is no control character of ASCII but a tab, a line feed or a carriage return
 abbrev pub is_text_byte : ℕ → Bool

@@ -2,7 +2,7 @@
 
 ghost use Rattle.std.specs.Prelude.{◌≡◌};
 ghost use Rattle.serde_json.specs.Written.{compact_text};
-ghost use Rattle.vdiff_core.specs.Printing.{Prints};
+ghost use Rattle.printing.specs.Printing.{Prints};
 ghost use Rattle.json_pieces.specs.Pieces.{list_data, pieces_text};
 ghost use Rattle.json_pieces.specs.Telling.{Tells, at};
 ghost use Rattle.show_json.specs.Private.Kept.{columns_in};
@@ -12,8 +12,8 @@ ghost use Rattle.show_json.specs.Text.{change_data, group_data, json_line, json_
 use crate::columns::FeedColumns;
 use crate::rows::put_side;
 use json_pieces::{Line, Piece, put_comma_if, put_pieces};
+use printing::{Out, OutFailed};
 use source_feed::{Change, Group, GroupChanges, Groups};
-use vdiff_core::{Out, OutFailed};
 
 /// Puts a change.
 fn put_change<O: Out>(

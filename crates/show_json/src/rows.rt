@@ -11,8 +11,8 @@ ghost use Rattle.show_json.specs.Values.{behind_first, name_of, row_data, side_d
 use crate::values::{put_text, put_value};
 use itoa::Buffer;
 use json_pieces::{Line, put_comma_if};
+use printing::Out;
 use row_view::{Column, Columns, RowBytes};
-use vdiff_core::Out;
 use vevent::ColumnFields;
 
 /// Puts a value by a name.

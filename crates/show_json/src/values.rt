@@ -10,9 +10,9 @@ ghost use Rattle.json_pieces.specs.Telling.{Tells, at};
 ghost use Rattle.show_json.specs.Values.{bytes_data, cell_data, is_text_byte, value_data};
 
 use json_pieces::{Line, Piece, put_pieces};
+use printing::Out;
 use row_view::Column;
 use std::str::from_utf8;
-use vdiff_core::Out;
 
 /// The digits in lower case.
 const DIGITS: [u8; 16] = *b"0123456789abcdef";

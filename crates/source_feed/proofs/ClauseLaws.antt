@@ -2,7 +2,7 @@
 use Rattle.std.proofs.Common.{◌≡◌, ◌∙◌, ℕ, List, reverse, length, Option, Some, None, Result, Ok, Err, IfOk, IfErr, IfSome, refl, sym, ap, subst}
 use Rattle.std.specs.Result.{result_err}
 use Rattle.std.specs.Prelude.{IsSomeAnd, MatchOption}
-use Rattle.outcome.specs.Outcome.{◌>>=◌, GivesUnless, Refuses}
+use Rattle.list_laws.specs.Outcome.{◌>>=◌, GivesUnless, Refuses}
 use Rattle.filter_rule.specs.PlanValue.{PlanValue}
 use Rattle.source_feed.specs.declared.fault.FeedFault.{FeedFault}
 use Rattle.source_feed.specs.declared.fault.FeedFault.TheVariants.{Memory, NoGroup}

@@ -5,7 +5,7 @@ use Rattle.std.proofs.lemmas.List.{append-nil, length-map}
 use Rattle.std.proofs.lemmas.List.Folds.{list_any-append}
 use Rattle.std.specs.List.{list_any}
 use Rattle.std.specs.Option.{option_map, option_map_or, option_or}
-use Rattle.outcome.specs.Outcome.{◌>>=◌, unless}
+use Rattle.list_laws.specs.Outcome.{◌>>=◌, unless}
 use Rattle.proto_wire.specs.Reading.{Reading}
 use Rattle.proto_wire.specs.Frame.{frames_of}
 use Rattle.proto_wire.specs.declared.fault.FrameFault.{FrameFault}

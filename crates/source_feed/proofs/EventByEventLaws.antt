@@ -9,7 +9,7 @@ use Rattle.vevent.specs.EventValue.{EventValue}
 use Rattle.vevent.specs.declared.fault.EventFault.{EventFault}
 use Rattle.source_feed.specs.declared.fault.FeedFault.{FeedFault}
 use Rattle.source_feed.specs.declared.fault.FeedFault.TheVariants.{Event}
-use Rattle.outcome.specs.Outcome.{◌>>=◌, unless, GivesUnless}
+use Rattle.list_laws.specs.Outcome.{◌>>=◌, unless, GivesUnless}
 use Rattle.source_feed.specs.FaultNumber.{meant_of}
 use Rattle.source_feed.specs.SourceValue.{SourceValue}
 use Rattle.source_feed.specs.EventList.{end_of_message, events_then, events_of_feed}

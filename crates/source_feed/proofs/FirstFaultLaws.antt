@@ -11,7 +11,7 @@ use Rattle.proto_wire.specs.Reading.{Reading}
 use Rattle.vevent.specs.EventValue.{EventValue}
 use Rattle.source_feed.specs.declared.fault.FeedFault.{FeedFault}
 use Rattle.source_feed.specs.declared.fault.FeedFault.TheVariants.{FeedTooLong, FieldsDiffer, OpenAtEnd, Memory}
-use Rattle.outcome.specs.Outcome.{GivesUnless, Refuses}
+use Rattle.list_laws.specs.Outcome.{GivesUnless, Refuses}
 use Rattle.source_feed.specs.FaultNumber.{meant_of}
 use Rattle.source_feed.specs.GroupValue.{GroupValue}
 use Rattle.source_feed.specs.SourceValue.{SourceValue}

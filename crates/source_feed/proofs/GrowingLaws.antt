@@ -4,7 +4,7 @@ use Rattle.std.proofs.lemmas.List.{append-nil, reverse-append}
 use Rattle.std.specs.List.{list_any}
 use Rattle.std.specs.Option.{option_map, option_or}
 use mathlib.Core.List.{reverse-cons}
-use Rattle.outcome.specs.Outcome.{◌>>=◌, unless}
+use Rattle.list_laws.specs.Outcome.{◌>>=◌, unless}
 use Rattle.proto_wire.specs.declared.fault.FrameFault.{FrameFault}
 use Rattle.proto_wire.specs.declared.fault.WireFault.{WireFault}
 use Rattle.proto_wire.specs.declared.fault.WireFault.TheVariants.{Truncated}

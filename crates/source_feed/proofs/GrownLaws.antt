@@ -168,3 +168,10 @@ module _ (laws : SetLaws) (bytes piece : List ℕ) (taken : ℕ) (feed : FeedVal
           canonical = subst (λ (h : PastEvents). IsCanonical (seen source h)) (sym past) r.behind.seen_canonical;
           placed = subst (λ (h : PastEvents). (position : Position) → body_position source h ≡ Some position → IsCanonical position) (sym past) r.behind.body_canonical;
         }
+
+    -- so they are a feed and its end
+    pub grown_end : (planned : List PlannedGroupValue) (grown : FeedValue) (new : FeedEnd) → planned ≡ more → grown ≡ record { plan = feed.plan; groups = feed.groups ++ planned } → new.tables ≡ kept.tables → new.length ≡ end.length + taken
+        → IsEndOf (bytes ++ front) grown new
+    grown_end planned grown new planned_is grown_is new_tables new_length =
+        let is : grown ≡ record { plan = feed.plan; groups = feed.groups ++ more } = grown_is ∙ ap (λ (gs : List PlannedGroupValue). record { plan = feed.plan; groups = feed.groups ++ gs }) planned_is in
+        subst (λ (f : FeedValue). IsEndOf (bytes ++ front) f new) (sym is) (record { groups = grown_groups; known = known_behind new new_tables new_length })

@@ -15,7 +15,7 @@ use Rattle.vevent.specs.Event.{event_at}
 use Rattle.vevent.specs.declared.fault.EventFault.{EventFault}
 use Rattle.source_feed.specs.declared.fault.FeedFault.{FeedFault}
 use Rattle.source_feed.specs.declared.fault.FeedFault.TheVariants.{Memory}
-use Rattle.outcome.specs.Outcome.{◌>>=◌, unless, Refuses}
+use Rattle.list_laws.specs.Outcome.{◌>>=◌, unless, Refuses}
 use Rattle.source_feed.specs.FaultNumber.{meant_of}
 use Rattle.source_feed.specs.SourceValue.{SourceValue}
 use Rattle.source_feed.specs.EventList.{end_of_message, events_then, events_in_messages}

@@ -4,7 +4,7 @@ use Rattle.std.specs.Option.{option_map}
 use Rattle.std.proofs.lemmas.Bool.{lt-ltb, ltb-true}
 use Rattle.std.proofs.lemmas.List.{length-drop}
 use Rattle.list_laws.proofs.Fronts.{take-own}
-use Rattle.outcome.specs.Outcome.{◌>>=◌, unless, refused_if, Refuses}
+use Rattle.list_laws.specs.Outcome.{◌>>=◌, unless, refused_if, Refuses}
 use Rattle.proto_wire.specs.declared.fault.FrameFault.{FrameFault}
 use Rattle.proto_wire.specs.Frame.{frames_of}
 use Rattle.source_feed.proofs.FrameLaws.{frames_end, front_whole, front_none, front_at, longest_front, read_behind, frames_none, moved}

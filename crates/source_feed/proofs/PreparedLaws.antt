@@ -5,7 +5,7 @@ use Rattle.std.proofs.lemmas.Option.{slice_get_within}
 use Rattle.std.specs.Prelude.{slice_get, IfSome, IsTrue}
 use Rattle.std.specs.List.{AllByRecursion, list_any, filter_map}
 use Rattle.list_laws.proofs.Fronts.{All-append}
-use Rattle.outcome.specs.Outcome.{◌>>=◌}
+use Rattle.list_laws.specs.Outcome.{◌>>=◌}
 use Rattle.vindex.specs.FaultNumber as filter
 use Rattle.filter_rule.specs.PlanValue.{PlanValue, columns_of, passes_of}
 use Rattle.pk_copy.specs.declared.fault.KeyFault.TheVariants.{NullKey, BadKey}

@@ -4,7 +4,7 @@ use Rattle.std.proofs.lemmas.Bool.{true≢false}
 use Rattle.std.specs.Prelude.{slice_get, IsOk, is_ok}
 use Rattle.std.specs.List.{AllByRecursion, flat_map}
 use Rattle.std.proofs.lemmas.Option.{same_Some}
-use Rattle.outcome.specs.Outcome.{◌>>=◌}
+use Rattle.list_laws.specs.Outcome.{◌>>=◌}
 use Rattle.vindex.specs.FaultNumber as filter
 use Rattle.vindex.specs.declared.faults.VindexFault.{VindexFault}
 use Rattle.filter_rule.specs.PlanValue.{PlanValue, passes_of}

@@ -9,7 +9,7 @@ use Rattle.source_feed.specs.declared.fault.FeedFault.{FeedFault}
 use Rattle.source_feed.specs.declared.fault.FeedFault.TheVariants.{Memory}
 use Rattle.source_feed.specs.declared.group_reader.GroupReader.{GroupReader}
 use Rattle.source_feed.specs.declared.start.Start.{Start}
-use Rattle.outcome.specs.Outcome.{Refuses, IsFault, GivesUnless}
+use Rattle.list_laws.specs.Outcome.{Refuses, IsFault, GivesUnless}
 use Rattle.source_feed.specs.FaultNumber.{meant_of}
 use Rattle.source_feed.specs.GroupValue.{Position, TableChangeValue, GroupValue}
 use Rattle.source_feed.specs.SourceValue.{SourceValue, own_gtid}

@@ -1,7 +1,7 @@
 -- A feed that comes in pieces: which of its bytes are whole messages, and which pieces aren't taken (this
 -- profile). Nothing here says how the bytes were cut into pieces: only what they are together.
 use Rattle.std.specs.Prelude.{◌≡◌, ℕ, ◌^◌, ◌≤◌, List, ◌++◌, Bool, true, false, not, Option, None, Some, Result, Ok, length, take, nat_lt, if◌then◌else◌}
-use Rattle.outcome.specs.Outcome.{◌>>=◌, unless, refused_if}
+use Rattle.list_laws.specs.Outcome.{◌>>=◌, unless, refused_if}
 use Rattle.proto_wire.specs.Frame.{frames_of}
 use Rattle.proto_wire.specs.declared.fault.FrameFault.{FrameFault}
 use Rattle.proto_wire.specs.declared.fault.WireFault.{WireFault}

@@ -1,7 +1,7 @@
 -- What a group does to the rows of a target: the touches of keys that its changes make, in order (this
 -- profile, after the row events of a VStream).
 use Rattle.std.specs.Prelude.{ℕ, zero, suc, List, [], ◌∷◌, ◌++◌, Bool, Option, Some, None, Result, Ok, Err, length, slice_get}
-use Rattle.outcome.specs.Outcome.{◌>>=◌}
+use Rattle.list_laws.specs.Outcome.{◌>>=◌}
 use Rattle.vindex.specs.FaultNumber as filter
 use Rattle.filter_rule.specs.PlanValue.{PlanValue, passes_of}
 use Rattle.pk_copy.specs.FaultNumber as keys

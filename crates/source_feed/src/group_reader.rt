@@ -8,7 +8,7 @@ ghost use Rattle.source_feed.specs.SourceValue.{SourceValue, own_gtid};
 ghost use Rattle.source_feed.specs.GroupValue.{GroupValue};
 ghost use Rattle.source_feed.specs.Private.BlockEnd.{last_position, block_end};
 ghost use Rattle.source_feed.specs.Private.Start.{start_position};
-ghost use Rattle.outcome.specs.Outcome.{GivesUnless};
+ghost use Rattle.list_laws.specs.Outcome.{GivesUnless};
 ghost use Rattle.source_feed.specs.FaultNumber.{meant_of};
 ghost use Rattle.source_feed.specs.PastEvents.{PastEvents, is_open};
 ghost use Rattle.source_feed.specs.TakesMemory.{takes_memory};

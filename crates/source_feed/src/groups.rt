@@ -3,7 +3,7 @@
 ghost use Rattle.std.specs.Prelude.{List, ◌≡◌, ◌||◌, ◌+◌, ◌^◌, ◌<◌, ◌≤◌, [], length, reverse, option_copied, Err, OnOk, IfOk, IfErr, IfSome};
 ghost use Rattle.std.specs.List.{list_any};
 ghost use Rattle.vevent.specs.Response.{response_of};
-ghost use Rattle.outcome.specs.Outcome.{GivesUnless, Refuses};
+ghost use Rattle.list_laws.specs.Outcome.{GivesUnless, Refuses};
 ghost use Rattle.source_feed.specs.FaultNumber.{meant_of};
 ghost use Rattle.source_feed.specs.EventList.{end_of_message, events_of_feed};
 ghost use Rattle.source_feed.specs.PastEvents.{PastEvents};

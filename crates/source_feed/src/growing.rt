@@ -2,7 +2,7 @@
 
 ghost use Rattle.std.specs.Prelude.{◌≡◌, ◌||◌, ◌+◌, ◌^◌, ◌<◌, ◌≤◌, ◌++◌, ℕ, List, false, None, length, take, drop, option_copied, Err, OnOk, OnErr, IfOk, IfErr, IfSome};
 ghost use Rattle.std.specs.List.{list_any};
-ghost use Rattle.outcome.specs.Outcome.{Gives};
+ghost use Rattle.list_laws.specs.Outcome.{Gives};
 ghost use Rattle.proto_wire.specs.Field.{bytes_at, sized_at};
 ghost use Rattle.source_feed.specs.FaultNumber.{meant_of};
 ghost use Rattle.source_feed.specs.declared.fault.FeedFault.TheVariants.{FeedTooLong};
@@ -149,6 +149,9 @@ impl<'h> FeedEnd<'h> {
         piece: &'h [u8],
     ) -> Result<u32, FeedFault>
         requires { AreOfOneFeed feed.old self.old }
+        // Feed and end stay those of one feed, also after a refusal, so a caller can go on with both.
+        ensures one { AreOfOneFeed feed.new self.new }
+        ensures within { IfOk result (λ taken. taken ≤ length piece.now) }
         // What is taken ends with the last message behind which no transaction is open.
         ensures taken { (bytes : List ℕ) → IsEndOf bytes feed.old self.old →
             IfOk result (λ taken. IsSettledFront (bytes ++ piece.now) (bytes ++ take taken piece.now) (drop taken piece.now)) }

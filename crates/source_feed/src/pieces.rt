@@ -1,7 +1,7 @@
 //! A feed that comes in pieces.
 
 ghost use Rattle.std.specs.Prelude.{◌≡◌, ◌^◌, ◌<◌, ◌≤◌, ℕ, List, [], ◌++◌, length, take, Some, None, Err, IfOk, IfErr, OnOk, OnErr};
-ghost use Rattle.outcome.specs.Outcome.{GivesUnless};
+ghost use Rattle.list_laws.specs.Outcome.{GivesUnless};
 ghost use Rattle.proto_wire.specs.Frame.{frames_of};
 ghost use Rattle.source_feed.specs.FaultNumber.{meant_of};
 ghost use Rattle.source_feed.specs.Pieces.{IsLongestWhole, IsWholeFront, is_no_length, broken_by, messages_in};

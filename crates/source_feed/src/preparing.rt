@@ -1,7 +1,7 @@
 //! The touches of a group.
 
 ghost use Rattle.std.specs.Prelude.{◌≡◌, ◌-◌, ◌^◌, ◌<◌, ℕ, IsTrue, length, min, Some, slice_get};
-ghost use Rattle.outcome.specs.Outcome.{Gives, GivesUnless};
+ghost use Rattle.list_laws.specs.Outcome.{Gives, GivesUnless};
 ghost use Rattle.vevent.specs.Columns.{has_columns};
 ghost use Rattle.filter_rule.specs.PlanValue.{columns_of};
 ghost use Rattle.source_feed.specs.FaultNumber.{meant_of};

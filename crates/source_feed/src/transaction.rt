@@ -2,7 +2,7 @@
 
 ghost use Rattle.std.specs.Prelude.{◌≡◌, ℕ, ◌++◌, None, Some, OnOk, IfErr};
 ghost use Rattle.std.specs.List.{list_all};
-ghost use Rattle.outcome.specs.Outcome.{IsFault};
+ghost use Rattle.list_laws.specs.Outcome.{IsFault};
 ghost use Rattle.vevent.specs.Columns.{has_columns, have_columns};
 ghost use Rattle.source_feed.specs.FaultNumber.{meant_of};
 ghost use Rattle.source_feed.specs.declared.fault.FeedFault.TheVariants.{Memory};

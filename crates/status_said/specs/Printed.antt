@@ -1,8 +1,8 @@
 -- What `status` leaves on its writer (this profile).
 use Rattle.std.specs.Prelude.{◌≡◌, ℕ, List, Result, Ok, Err}
-use Rattle.vdiff_core.specs.Printing.{Written, IsWritten, BreaksOff}
-use Rattle.status_said.specs.declared.printing.StatusEnd.{StatusEnd}
-use Rattle.status_said.specs.declared.printing.StatusEnd.TheVariants.{Printed, Broken, Memory, Unwritten}
+use Rattle.printing.specs.Printing.{Written, IsWritten, BreaksOff}
+use Rattle.status_said.specs.declared.printed.StatusEnd.{StatusEnd}
+use Rattle.status_said.specs.declared.printed.StatusEnd.TheVariants.{Printed, Broken, Memory, Unwritten}
 
 -- a text was printed whole; or a beginning of it, and then a write failed
 abbrev pub PrintsText : List ℕ → StatusEnd → Written → Written → Type 0

@@ -1,6 +1,6 @@
 -- What `status` says of checkpoints' bytes, and which it refuses (this profile).
 use Rattle.std.specs.Prelude.{◌≡◌, ℕ, ◌+◌, List, [], ◌∷◌, Option, None, Some, Result, Ok, Err}
-use Rattle.outcome.specs.Outcome.{◌>>=◌}
+use Rattle.list_laws.specs.Outcome.{◌>>=◌}
 use Rattle.vrepl_choices.specs.declared.report_form.ReportForm.{ReportForm}
 use Rattle.vrepl_choices.specs.declared.report_form.ReportForm.TheVariants.{Lines, Json}
 use Rattle.checkpoint_places.specs.Stands.{CheckpointStandValue, stands_at}

@@ -5,10 +5,10 @@ mod fault;
 mod json;
 mod least;
 mod lines;
-mod printing;
+mod printed;
 mod reading;
 mod said;
 
 pub use fault::StatusFault;
-pub use printing::{StatusEnd, status};
+pub use printed::{StatusEnd, status};
 pub use said::status_said;

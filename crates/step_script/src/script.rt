@@ -10,6 +10,7 @@ use crate::line::{Line, line_of, without_cr};
 use crate::word::first_line;
 use std::alloc::{AllocError, AllocFailed, Global};
 use stream_core::Step;
+use thiserror::Error;
 
 /// A step of a script. Streams are numbered from 0, groups from 1.
 #[derive(Clone, Copy)]
@@ -23,11 +24,13 @@ pub enum ScriptStep {
 }
 
 /// Why a script isn't read.
-#[derive(Clone, Copy, Debug, PartialEq, Eq)]
+#[derive(Clone, Copy, Debug, PartialEq, Eq, Error)]
 pub enum ScriptFault {
     /// 120: the line of this number, from 1, is no step; skipped lines count.
+    #[error("line {0} is no step")]
     BadLine(usize),
     /// A growth of memory was refused.
+    #[error("out of memory")]
     Memory,
 }
 

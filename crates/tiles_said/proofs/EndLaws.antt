@@ -1,11 +1,11 @@
 -- How `tiles` ends, by what was said.
 use Rattle.std.proofs.Common.{◌≡◌, ℕ, List, map, true, false}
-use Rattle.vdiff_core.specs.Printing.{Written}
+use Rattle.printing.specs.Printing.{Written}
 use Rattle.tiles_said.specs.Printed.{PrintsSaid, EndsSo}
 use Rattle.tiles_said.specs.Said.{SaidValue, IsSaid}
 use Rattle.tiles_said.specs.Sources.{file_in}
-use Rattle.tiles_said.specs.declared.printing.TilesEnd.{TilesEnd}
-use Rattle.tiles_said.specs.declared.printing.TilesEnd.TheVariants.{Fine, Warned, Refused, Unwritten}
+use Rattle.tiles_said.specs.declared.printed.TilesEnd.{TilesEnd}
+use Rattle.tiles_said.specs.declared.printed.TilesEnd.TheVariants.{Fine, Warned, Refused, Unwritten}
 
 pub ends_said : (names texts : List (List ℕ)) (said : SaidValue) (end : TilesEnd) (old new : Written) → IsSaid names (map file_in texts) said → PrintsSaid said end old new → EndsSo names texts end old new
 ends_said names texts said Fine old new is prints = (said, is, prints)

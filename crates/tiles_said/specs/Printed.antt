@@ -1,10 +1,10 @@
 -- What `tiles` leaves on its writer (this profile).
 use Rattle.std.specs.Prelude.{◌≡◌, ℕ, true, false, List, map}
-use Rattle.vdiff_core.specs.Printing.{Written, IsWritten, BreaksOff}
+use Rattle.printing.specs.Printing.{Written, IsWritten, BreaksOff}
 use Rattle.tiles_said.specs.Said.{SaidValue, IsSaid, IsRefusal}
 use Rattle.tiles_said.specs.Sources.{file_in}
-use Rattle.tiles_said.specs.declared.printing.TilesEnd.{TilesEnd}
-use Rattle.tiles_said.specs.declared.printing.TilesEnd.TheVariants.{Fine, Warned, Refused, Unwritten}
+use Rattle.tiles_said.specs.declared.printed.TilesEnd.{TilesEnd}
+use Rattle.tiles_said.specs.declared.printed.TilesEnd.TheVariants.{Fine, Warned, Refused, Unwritten}
 
 -- the text was printed whole, with a warning or without; or a beginning of it, and then a write failed
 abbrev pub PrintsSaid : SaidValue → TilesEnd → Written → Written → Type 0

@@ -9,12 +9,12 @@ mod json;
 mod laws;
 mod lines;
 mod passing;
-mod printing;
+mod printed;
 mod said;
 mod shares;
 mod sources;
 
 pub use fault::TilesFault;
 pub use laws::quiet_tiles_have_each_id_once;
-pub use printing::{TilesEnd, tiles};
+pub use printed::{TilesEnd, tiles};
 pub use said::{TilesSaid, tiles_said};

@@ -11,11 +11,11 @@ use Rattle.pk_copy.specs.KeyOrderLaws.{key_cmp_total}
 use Rattle.pk_copy.specs.KeyValue.{KeyValue}
 use Rattle.target_tables.specs.Rising.{IsRising, AreAbove, AreBelow}
 use Rattle.target_tables.proofs.Values.{absent}
-use Rattle.vdiff_core.specs.Report.{column_eq, row_eq}
-use Rattle.vdiff_core.specs.DumpRowsValue.{RowValue, DumpRowsValue}
-use Rattle.vdiff_core.proofs.ReportLaws.{all_above, row_eq-Decides, column_eq-Decides}
+use Rattle.vdiff.specs.Report.{column_eq, row_eq}
+use Rattle.dump.specs.DumpRowsValue.{RowValue, DumpRowsValue}
+use Rattle.vdiff.proofs.ReportLaws.{all_above, row_eq-Decides, column_eq-Decides}
 use Rattle.vdiff_patch.proofs.StepLaws.{behind_all}
-use Rattle.vdiff_tables.proofs.DifferenceLaws.{Tie}
+use Rattle.vdiff.proofs.DifferenceLaws.{Tie}
 use Rattle.vdiff_patch.specs.Patch.{Cell, update, insert, delete, with_cells, updated, changed, patched, differing_from, patch_of}
 use Rattle.vdiff_patch.proofs.StepLaws.{none_before, all_stay, none_updated, all_before, none_past, all_stay_below, none_updated_below, source_alone, target_alone, both_have, of_same, of_other}
 

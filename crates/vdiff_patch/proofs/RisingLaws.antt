@@ -6,10 +6,10 @@ use Rattle.pk_copy.specs.KeyOrder.{key_cmp}
 use Rattle.pk_copy.specs.KeyOrderLaws.{key_cmp_total}
 use Rattle.pk_copy.specs.KeyValue.{KeyValue}
 use Rattle.target_tables.specs.Rising.{IsRising, AreAbove}
-use Rattle.vdiff_core.specs.Report.{row_eq}
-use Rattle.vdiff_core.specs.DumpRowsValue.{RowValue, DumpRowsValue}
-use Rattle.vdiff_core.proofs.ReportLaws.{all_above}
-use Rattle.vdiff_tables.proofs.DifferenceLaws.{Tie}
+use Rattle.vdiff.specs.Report.{row_eq}
+use Rattle.dump.specs.DumpRowsValue.{RowValue, DumpRowsValue}
+use Rattle.vdiff.proofs.ReportLaws.{all_above}
+use Rattle.vdiff.proofs.DifferenceLaws.{Tie}
 use Rattle.vdiff_patch.specs.AllDifferences.{of_source, differences_of}
 use Rattle.vdiff_patch.specs.Patch.{change_at, patch_of}
 use Rattle.vdiff_patch.proofs.StepLaws.{source_alone, target_alone, both_have, of_same, of_other}

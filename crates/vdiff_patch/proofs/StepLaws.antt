@@ -10,10 +10,10 @@ use Rattle.pk_copy.specs.KeyOrder.{key_cmp}
 use Rattle.pk_copy.specs.KeyOrderLaws.{key_cmp_total}
 use Rattle.pk_copy.specs.KeyValue.{KeyValue}
 use Rattle.target_tables.specs.Rising.{AreAbove, AreBelow}
-use Rattle.vdiff_core.specs.Report.{row_eq}
-use Rattle.vdiff_core.specs.DumpRowsValue.{RowValue, DumpRowsValue}
-use Rattle.vdiff_core.proofs.ReportLaws.{none_at}
-use Rattle.vdiff_tables.specs.Differences.{Difference, rows_past}
+use Rattle.vdiff.specs.Report.{row_eq}
+use Rattle.dump.specs.DumpRowsValue.{RowValue, DumpRowsValue}
+use Rattle.vdiff.proofs.ReportLaws.{none_at}
+use Rattle.vdiff.specs.Differences.{Difference, rows_past}
 use Rattle.vdiff_patch.specs.AllDifferences.{rows_before, of_target, of_source, differences_of}
 use Rattle.vdiff_patch.specs.Patch.{Cell, with_cells, updated}
 

@@ -7,10 +7,10 @@ use Rattle.pk_copy.specs.KeyOrder.{key_cmp}
 use Rattle.pk_copy.specs.KeyOrderLaws.{key_cmp_total}
 use Rattle.pk_copy.specs.KeyValue.{KeyValue}
 use Rattle.target_tables.specs.Rising.{IsRising, AreAbove}
-use Rattle.vdiff_core.specs.Report.{row_eq}
-use Rattle.vdiff_core.specs.DumpRowsValue.{RowValue, DumpRowsValue}
-use Rattle.vdiff_core.proofs.ReportLaws.{all_above, row_eq-Decides}
-use Rattle.vdiff_tables.specs.Differences.{Difference}
+use Rattle.vdiff.specs.Report.{row_eq}
+use Rattle.dump.specs.DumpRowsValue.{RowValue, DumpRowsValue}
+use Rattle.vdiff.proofs.ReportLaws.{all_above, row_eq-Decides}
+use Rattle.vdiff.specs.Differences.{Difference}
 use Rattle.vdiff_patch.specs.AllDifferences.{differences_of}
 use Rattle.vdiff_patch.specs.Private.Walk.{IsFirst, IsBehindSame}
 use Rattle.vdiff_patch.proofs.StepLaws.{source_alone, target_alone, both_have, of_same, of_other}

@@ -4,9 +4,9 @@ use Rattle.std.specs.List.{filter}
 use Rattle.std.specs.Ordering.{is_gt}
 use Rattle.pk_copy.specs.KeyOrder.{key_cmp}
 use Rattle.pk_copy.specs.KeyValue.{KeyValue}
-use Rattle.vdiff_core.specs.DumpRowsValue.{RowValue, DumpRowsValue, row_with_key}
-use Rattle.vdiff_core.specs.Report.{is_matched}
-use Rattle.vdiff_tables.specs.Differences.{Difference, rows_past}
+use Rattle.dump.specs.DumpRowsValue.{RowValue, DumpRowsValue, row_with_key}
+use Rattle.vdiff.specs.Report.{is_matched}
+use Rattle.vdiff.specs.Differences.{Difference, rows_past}
 
 -- the rows at lesser keys
 abbrev pub rows_before : KeyValue → DumpRowsValue → DumpRowsValue

@@ -5,10 +5,10 @@ use Rattle.std.specs.Option.{option_and_then}
 use Rattle.std.specs.Ordering.{eq_by_cmp}
 use Rattle.pk_copy.specs.KeyOrder.{key_cmp}
 use Rattle.pk_copy.specs.KeyValue.{KeyValue}
-use Rattle.vdiff_core.specs.DumpRowsValue.{RowValue, DumpRowsValue, row_with_key}
-use Rattle.vdiff_core.specs.Report.{column_eq}
+use Rattle.dump.specs.DumpRowsValue.{RowValue, DumpRowsValue, row_with_key}
+use Rattle.vdiff.specs.Report.{column_eq}
 use Rattle.vdiff_patch.specs.AllDifferences.{rows_before, differences_of}
-use Rattle.vdiff_tables.specs.Differences.{Difference, rows_past}
+use Rattle.vdiff.specs.Differences.{Difference, rows_past}
 
 -- a column's place in a row, and a value
 abbrev pub Cell : Type 0

@@ -2,7 +2,7 @@
 use Rattle.std.specs.Prelude.{◌≡◌, Some}
 use Rattle.pk_copy.specs.KeyOrder.{key_cmp}
 use Rattle.target_tables.specs.Rising.{IsRising}
-use Rattle.vdiff_core.specs.DumpRowsValue.{DumpRowsValue}
+use Rattle.dump.specs.DumpRowsValue.{DumpRowsValue}
 use Rattle.vdiff_patch.specs.Patch.{Patch, patched}
 
 -- each of its changes can be made where the earlier ones were, and behind them all stand the source's rows; its keys rise

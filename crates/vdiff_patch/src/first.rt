@@ -9,7 +9,7 @@ ghost use Rattle.vdiff_patch.specs.Private.Walk.{IsBehindSame, IsFirstFound, Hea
 use pk_copy::{Key, keys_tie_where_they_are_equal};
 use row_view::RowBuf;
 use std::cmp::Ordering;
-use vdiff_tables::Found;
+use vdiff::Found;
 
 /// The first of all differences of the two, with the rows at greater keys, which have the others. There is none where
 /// they have no difference. One walk over what is the same. Takes no memory.

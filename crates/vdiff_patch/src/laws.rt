@@ -1,13 +1,13 @@
 //! What a patch does.
 
 ghost use Rattle.std.specs.List.{AllByRecursion};
-ghost use Rattle.vdiff_core.specs.DumpReading.{FitsPlan};
+ghost use Rattle.dump.specs.DumpReading.{FitsPlan};
 ghost use Rattle.vdiff_patch.specs.Patch.{patch_of};
 ghost use Rattle.vdiff_patch.specs.Repair.{IsRepair};
 
+use dump::DumpRows;
 use filter_rule::Plan;
 use pk_copy::keys_tie_where_they_are_equal;
-use vdiff_core::DumpRows;
 
 /// The patch of two sets of rows of a plan's tables, applied to the target's, gives the source's: each of its changes
 /// can be made where the earlier ones were, and their keys rise. Takes no memory.

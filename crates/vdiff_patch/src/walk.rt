@@ -3,14 +3,14 @@
 ghost use Rattle.std.specs.Prelude.{◌≡◌};
 ghost use Rattle.std.specs.Iterator.{YieldsFirstBy, item_count};
 ghost use Rattle.vdiff_patch.specs.AllDifferences.{differences_of};
-ghost use Rattle.vdiff_tables.specs.Found.{difference_of};
+ghost use Rattle.vdiff.specs.Found.{difference_of};
 
 use crate::first::first_of;
+use dump::DumpRows;
 use pk_copy::Key;
 use row_view::RowBuf;
 use std::marker::Model;
-use vdiff_core::DumpRows;
-use vdiff_tables::Found;
+use vdiff::Found;
 
 /// The keys at which two sets of rows differ that are still to come, by rising key, each with the rows that stand
 /// there. Found in one walk over both. Seen in contracts as the list of them. Takes no memory.
@@ -25,7 +25,7 @@ impl<'r> Model for Differences<'r> {
     ghost use Rattle.pk_copy.specs.KeyOrder.{key_cmp};
     ghost use Rattle.target_tables.specs.Rising.{IsRising};
     ghost use Rattle.vdiff_patch.specs.AllDifferences.{differences_of};
-    ghost use Rattle.vdiff_tables.specs.Differences.{Difference};
+    ghost use Rattle.vdiff.specs.Differences.{Difference};
 
     ghost Value = { List Difference };
 

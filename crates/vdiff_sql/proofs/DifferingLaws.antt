@@ -2,8 +2,8 @@
 use Rattle.std.proofs.Common.{◌≡◌, ◌∙◌, ◌⊎◌, inl, inr, ℕ, zero, suc, ◌+◌, ◌≤◌, Bool, true, false, List, [], ◌∷◌, ◌++◌, map, sym, ap, refl, append_assoc, append-nil, arith, drop, length, Option, Some}
 use Rattle.std.specs.Prelude.{slice_get, if◌then◌else◌, ◌&&◌}
 use Rattle.filter_rule.specs.PlanTable.{TableValue}
-use Rattle.vdiff_core.specs.DumpRowsValue.{RowValue}
-use Rattle.vdiff_core.specs.Report.{column_eq}
+use Rattle.dump.specs.DumpRowsValue.{RowValue}
+use Rattle.vdiff.specs.Report.{column_eq}
 use Rattle.vdiff_patch.specs.Patch.{Cell, differing_from}
 use Rattle.vdiff_sql.specs.Columns.{listed}
 use Rattle.vdiff_sql.specs.Private.Differing.{assignments_at}

@@ -4,7 +4,7 @@ use Rattle.std.specs.List.{flat_map}
 use Rattle.std.specs.Option.{option_map_or}
 use Rattle.filter_rule.specs.PlanTable.{TableValue}
 use Rattle.pk_copy.specs.KeyValue.{KeyValue}
-use Rattle.vdiff_core.specs.DumpRowsValue.{RowValue}
+use Rattle.dump.specs.DumpRowsValue.{RowValue}
 use Rattle.vdiff_patch.specs.Patch.{Cell, Change, update, insert, delete, Patch}
 use Rattle.vdiff_sql.specs.Columns.{listed, row_column, name_of, type_of, row_names, row_literals}
 use Rattle.vdiff_sql.specs.Keys.{where_text}

@@ -2,7 +2,7 @@
 
 ghost use Rattle.std.specs.Prelude.{◌≡◌, ◌≤◌, ◌⊎◌, ◌&&◌, ◌++◌, true, OnOk, codes, length, map};
 ghost use Rattle.row_view.specs.ColumnValue.{column_value};
-ghost use Rattle.vdiff_core.specs.Report.{column_eq};
+ghost use Rattle.vdiff.specs.Report.{column_eq};
 ghost use Rattle.vdiff_patch.specs.Patch.{differing_from};
 ghost use Rattle.vdiff_sql.specs.Columns.{listed};
 ghost use Rattle.vdiff_sql.specs.Private.Differing.{assignments_at};

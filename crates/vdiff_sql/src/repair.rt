@@ -2,15 +2,15 @@
 
 ghost use Rattle.std.specs.Prelude.{◌≡◌, IfOk};
 ghost use Rattle.std.specs.List.{AllByRecursion};
-ghost use Rattle.vdiff_core.specs.DumpReading.{FitsPlan};
+ghost use Rattle.dump.specs.DumpReading.{FitsPlan};
 ghost use Rattle.vdiff_patch.specs.Patch.{patch_of};
 ghost use Rattle.vdiff_patch.specs.Repair.{IsRepair};
 ghost use Rattle.vdiff_sql.specs.Statements.{sql_text};
 
 use crate::statements::push_statement_at;
+use dump::DumpRows;
 use filter_rule::Plan;
 use std::alloc::{AllocError, Global};
-use vdiff_core::DumpRows;
 use vdiff_patch::{Differences, patches_repair};
 
 /// The statements that make the tables of a schema, which have the target's rows, have the source's: in one transaction

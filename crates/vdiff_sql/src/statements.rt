@@ -3,7 +3,7 @@
 ghost use Rattle.std.specs.Prelude.{◌≡◌, ◌++◌, OnOk, option_copied};
 ghost use Rattle.vdiff_patch.specs.Patch.{change_at, change_of, differing_from};
 ghost use Rattle.vdiff_sql.specs.Statements.{delete_text, insert_front, insert_names, insert_text, statement, statement_at, table_text, update_front, update_text};
-ghost use Rattle.vdiff_tables.specs.Found.{difference_of};
+ghost use Rattle.vdiff.specs.Found.{difference_of};
 
 use crate::differing::push_assignments;
 use crate::keys::push_where;
@@ -13,7 +13,7 @@ use filter_rule::Table;
 use pk_copy::Key;
 use row_view::RowBuf;
 use std::alloc::{AllocError, Global};
-use vdiff_tables::Found;
+use vdiff::Found;
 
 /// Adds the statement of the change at a key at which two sets of rows differ. An error is want of memory.
 pub(crate) fn push_statement_at(

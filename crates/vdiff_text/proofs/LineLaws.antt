@@ -3,7 +3,7 @@ use Rattle.std.proofs.Common.{◌≡◌, ◌∙◌, ◌⊎◌, inl, inr, ℕ, ze
 use Rattle.std.specs.List.{flat_map}
 use Rattle.std.specs.Prelude.{slice_get}
 use Rattle.filter_rule.specs.PlanTable.{TableValue}
-use Rattle.vdiff_core.specs.DumpRowsValue.{RowValue}
+use Rattle.dump.specs.DumpRowsValue.{RowValue}
 use Rattle.vdiff_text.specs.ShownDifferences.{both_lines, line_if_other, one_line, one_lines, row_column}
 
 -- a text more

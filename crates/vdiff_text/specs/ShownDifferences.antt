@@ -7,10 +7,10 @@ use Rattle.filter_rule.specs.PlanTable.{TableValue}
 use Rattle.pk_copy.specs.KeyValue.{Part, number, bytes, KeyValue}
 use Rattle.pk_copy.specs.Lastpk.{part_text}
 use Rattle.shown_text.specs.Shown.{printable}
-use Rattle.vdiff_core.specs.DumpRowsValue.{RowValue, DumpRowsValue}
-use Rattle.vdiff_core.specs.Report.{column_eq}
+use Rattle.dump.specs.DumpRowsValue.{RowValue, DumpRowsValue}
+use Rattle.vdiff.specs.Report.{column_eq}
 use Rattle.vdiff_patch.specs.AllDifferences.{differences_of}
-use Rattle.vdiff_tables.specs.Differences.{Difference}
+use Rattle.vdiff.specs.Differences.{Difference}
 use Rattle.vdiff_text.specs.ShownValues.{shown_cell, shown_value}
 
 -- ---- keys

@@ -3,7 +3,7 @@
 ghost use Rattle.std.specs.Prelude.{◌≡◌, ◌≤◌, ◌⊎◌, [], ◌++◌, OnOk, length, option_copied};
 ghost use Rattle.std.specs.Option.{option_map_or};
 ghost use Rattle.row_view.specs.ColumnValue.{column_value};
-ghost use Rattle.vdiff_core.specs.Report.{column_eq};
+ghost use Rattle.vdiff.specs.Report.{column_eq};
 ghost use Rattle.vdiff_text.specs.ShownDifferences.{both_line, both_lines, column_front, line_if_other, one_line, one_lines, row_column};
 
 use crate::values::push_cell;

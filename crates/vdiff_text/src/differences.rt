@@ -1,18 +1,18 @@
 //! The first differences, as a person reads them.
 
 ghost use Rattle.std.specs.Prelude.{◌≡◌, ◌++◌, IfOk, OnOk, option_copied};
-ghost use Rattle.vdiff_tables.specs.Found.{difference_of};
+ghost use Rattle.vdiff.specs.Found.{difference_of};
 ghost use Rattle.vdiff_text.specs.ShownDifferences.{both_sides, one_side, shown_difference, shown_differences, sides_text};
 
 use crate::columns::{push_both_lines, push_one_lines};
 use crate::keys::push_head;
+use dump::DumpRows;
 use filter_rule::Table;
 use pk_copy::Key;
 use row_view::RowBuf;
 use std::alloc::{AllocError, Global};
-use vdiff_core::DumpRows;
+use vdiff::Found;
 use vdiff_patch::Differences;
-use vdiff_tables::Found;
 
 /// The first `count` keys at which a source's rows and a target's differ, by rising key, or all where there are fewer: a
 /// line of the table and the key, and behind it a line a column, with both values of each that differs, or the values of a

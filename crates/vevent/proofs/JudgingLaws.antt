@@ -1,7 +1,7 @@
 -- What is answered of a judged message is what stands in it, and what stands there is answered.
 use Rattle.std.proofs.Common.{◌≡◌, ℕ, Bool, true, false, List, Option, Some, None, Result, Ok, Err, refl, sym, ap, subst, ◌∙◌}
 use Rattle.std.specs.Prelude.{not, option_map, IfOk, IfErr}
-use Rattle.outcome.specs.Outcome.{◌>>=◌, unless, refused_if}
+use Rattle.list_laws.specs.Outcome.{◌>>=◌, unless, refused_if}
 use Rattle.proto_wire.specs.declared.fault.WireFault.{WireFault}
 use Rattle.row_view.specs.declared.fault.RowFault.{RowFault}
 use Rattle.vevent.specs.declared.fault.EventFault.{EventFault}

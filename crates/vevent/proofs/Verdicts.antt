@@ -3,7 +3,7 @@ use Rattle.std.proofs.Common.{◌≡◌, ℕ, Bool, true, false, List, Option, S
 use Rattle.std.specs.Prelude.{not, option_map, ok_or, IfOk, IfErr}
 use Rattle.std.specs.List.{list_any}
 use Rattle.proto_wire.specs.declared.fault.WireFault.{WireFault}
-use Rattle.outcome.specs.Outcome.{◌>>=◌, Gives, unless, refused_if}
+use Rattle.list_laws.specs.Outcome.{◌>>=◌, Gives, unless, refused_if}
 use Rattle.row_view.specs.declared.fault.RowFault.{RowFault}
 use Rattle.vevent.specs.declared.event.Event.{Event}
 use Rattle.vevent.specs.declared.fault.EventFault.{EventFault}

@@ -1,7 +1,7 @@
 -- An event: what its bytes say, or the first of its faults in the order of their numbers.
 use Rattle.std.specs.Prelude.{ℕ, not, List, option_map, Result, Ok, ok_or}
 use Rattle.std.specs.List.{list_any}
-use Rattle.outcome.specs.Outcome.{◌>>=◌, unless, refused_if}
+use Rattle.list_laws.specs.Outcome.{◌>>=◌, unless, refused_if}
 use Rattle.vevent.specs.declared.fault.EventFault.{EventFault}
 use Rattle.vevent.specs.declared.fault.EventFault.TheVariants.{Wire, RepeatedMessage, BadType, NotUtf8, PartialRow, Row}
 use Rattle.vevent.specs.declared.kind.EventKind.{EventKind}

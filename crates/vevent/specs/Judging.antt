@@ -1,7 +1,7 @@
 -- Messages that stand outside of events: what is at fault in one is judged in the order of an event's
 -- faults, each a condition on the whole message.
 use Rattle.std.specs.Prelude.{◌≡◌, ℕ, not, Bool, true, false, List, Option, Some, None, option_map, Result, Ok}
-use Rattle.outcome.specs.Outcome.{◌>>=◌, unless, refused_if}
+use Rattle.list_laws.specs.Outcome.{◌>>=◌, unless, refused_if}
 use Rattle.proto_wire.specs.declared.fault.WireFault.{WireFault}
 use Rattle.row_view.specs.declared.fault.RowFault.{RowFault}
 use Rattle.vevent.specs.declared.fault.EventFault.{EventFault}

@@ -1,7 +1,7 @@
 //! One event.
 
 ghost use Rattle.std.specs.Prelude.{◌≡◌, ℕ, List, IfOk, IfErr};
-ghost use Rattle.outcome.specs.Outcome.{Gives};
+ghost use Rattle.list_laws.specs.Outcome.{Gives};
 ghost use Rattle.vevent.specs.declared.fault.EventFault.{EventFault};
 ghost use Rattle.vevent.specs.EventValue.{EventValue};
 ghost use Rattle.vevent.specs.Message.{event_of};

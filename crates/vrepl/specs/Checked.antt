@@ -1,6 +1,6 @@
 -- What `check` leaves of the inputs that were read (this profile).
 use Rattle.std.specs.Prelude.{ℕ, true, false}
-use Rattle.vdiff_core.specs.Printing.{Written}
+use Rattle.printing.specs.Printing.{Written}
 use Rattle.vrepl_check.specs.Checking.{PrintsReport, report_asked, text_of_report}
 use Rattle.vrepl_check.specs.declared.inputs.CheckInputs.{CheckInputs}
 use Rattle.vrepl_main.specs.Command.{Ends, IsGivenText}

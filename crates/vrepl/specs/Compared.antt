@@ -1,6 +1,6 @@
 -- What `vdiff` leaves of the inputs that were read, with options or without (this profile).
 use Rattle.std.specs.Prelude.{ℕ, Bool, true, false, ◌||◌, is_some}
-use Rattle.vdiff_core.specs.Printing.{Written}
+use Rattle.printing.specs.Printing.{Written}
 use Rattle.vrepl_choices.specs.declared.report_form.ReportForm.{ReportForm}
 use Rattle.vrepl_choices.specs.declared.report_form.ReportForm.TheVariants.{Lines, Json}
 use Rattle.vrepl_main.specs.Comparison.{ComparisonEnds}

@@ -2,7 +2,7 @@
 use Rattle.std.specs.Prelude.{◌≡◌, ℕ, List, Option, Result, Ok}
 use Rattle.refusal_json.specs.Explained.{IsExplainedJson}
 use Rattle.refusal_words.specs.Texts.{explained}
-use Rattle.vdiff_core.specs.Printing.{Written}
+use Rattle.printing.specs.Printing.{Written}
 use Rattle.vrepl_choices.specs.declared.report_form.ReportForm.{ReportForm}
 use Rattle.vrepl_choices.specs.declared.report_form.ReportForm.TheVariants.{Lines, Json}
 use Rattle.vrepl_main.specs.Command.{PrintsText}

@@ -1,10 +1,10 @@
 -- What `status` leaves of the checkpoints that were read (this profile).
 use Rattle.std.specs.Prelude.{◌≡◌, ℕ, map}
-use Rattle.vdiff_core.specs.Printing.{Written}
+use Rattle.printing.specs.Printing.{Written}
 use Rattle.status_said.specs.Printed.{EndsSo}
 use Rattle.status_said.specs.Said.{status_said}
-use Rattle.status_said.specs.declared.printing.StatusEnd.{StatusEnd}
-use Rattle.status_said.specs.declared.printing.StatusEnd.TheVariants.{Printed, Broken, Memory, Unwritten}
+use Rattle.status_said.specs.declared.printed.StatusEnd.{StatusEnd}
+use Rattle.status_said.specs.declared.printed.StatusEnd.TheVariants.{Printed, Broken, Memory, Unwritten}
 use Rattle.vrepl_words.specs.declared.words.Status.{Status}
 use Rattle.vrepl.specs.declared.stating.StatusInputs.{StatusInputs}
 

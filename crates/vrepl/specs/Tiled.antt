@@ -1,9 +1,9 @@
 -- What `tiles` leaves of the files that were read (this profile).
 use Rattle.std.specs.Prelude.{◌≡◌, ℕ, map}
-use Rattle.vdiff_core.specs.Printing.{Written}
+use Rattle.printing.specs.Printing.{Written}
 use Rattle.tiles_said.specs.Printed.{EndsSo}
-use Rattle.tiles_said.specs.declared.printing.TilesEnd.{TilesEnd}
-use Rattle.tiles_said.specs.declared.printing.TilesEnd.TheVariants.{Fine, Warned, Refused, Unwritten}
+use Rattle.tiles_said.specs.declared.printed.TilesEnd.{TilesEnd}
+use Rattle.tiles_said.specs.declared.printed.TilesEnd.TheVariants.{Fine, Warned, Refused, Unwritten}
 use Rattle.vrepl.specs.declared.files.FileInputs.{FileInputs}
 
 -- the status of an end

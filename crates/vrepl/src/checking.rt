@@ -8,8 +8,8 @@ ghost use Rattle.vrepl_main.specs.declared.input.InputName.TheVariants.{File};
 
 use crate::telling::Teller;
 use pace::Meter;
+use printing::Out;
 use std::alloc::Global;
-use vdiff_core::Out;
 use vrepl_check::{CheckInputs, check, print_place};
 use vrepl_main::{CommandRefusal, read_inputs, run_inputs};
 use vrepl_words::words::Check;

@@ -10,8 +10,8 @@ use crate::keeping::{Keeping, misnamed, place_of, unkept};
 use crate::telling::Teller;
 use compaction::{CompactedFeed, UnknownTables};
 use kept_file::{KeepFault, Place};
+use printing::{Writer, put_all};
 use std::alloc::{AllocError, Global};
-use vdiff_core::{Writer, put_all};
 use vrepl_compact::{
     CompactInputs, NewFeed, PlannedInputs, Uncompacted, compacted, planned, refuse_uncompacted,
 };

@@ -8,8 +8,8 @@ ghost use Rattle.vrepl_main.specs.declared.input.InputName.TheVariants.{File};
 
 use crate::telling::Teller;
 use pace::Meter;
+use printing::Out;
 use std::alloc::Global;
-use vdiff_core::Out;
 use vrepl_choices::ReportForm;
 use vrepl_main::{CommandRefusal, InputName, read_input, vdiff};
 use vrepl_vdiff::{Detail, Dump, Options, VdiffInputs, vdiff_with};

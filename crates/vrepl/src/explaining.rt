@@ -6,9 +6,9 @@ ghost use Rattle.refusal_words.specs.Texts.{explained};
 ghost use Rattle.vrepl.specs.Explained.{ExplainEnds, PrintsExplained};
 ghost use Rattle.vrepl_main.specs.Command.{PrintsText};
 
+use printing::{Out, put_all};
 use refusal_json::print_explained;
 use refusal_words::texts::explained;
-use vdiff_core::{Out, put_all};
 use vrepl_choices::ReportForm;
 use vrepl_main::CommandRefusal;
 use vrepl_refusal::refuse_as;

@@ -5,9 +5,9 @@ ghost use Rattle.vrepl_main.specs.InputList.{bytes_of};
 ghost use Rattle.vrepl_main.specs.Inputs.{AreGiven, IsUnreadAmong};
 ghost use Rattle.vrepl_main.specs.declared.input.InputName.TheVariants.{File};
 
+use printing::{Out, put_all};
 use shown_text::shown;
 use std::alloc::{AllocError, Global};
-use vdiff_core::{Out, put_all};
 use vrepl_main::{CommandRefusal, InputName, Source, Untold, read_inputs};
 
 /// Files with their names.

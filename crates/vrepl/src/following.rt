@@ -6,10 +6,10 @@ use crate::course_of;
 use crate::keeping::{Keeping, keep, place_of};
 use crate::reporting::{Report, Reporter};
 use kept_file::Place;
+use printing::Writer;
 use std::alloc::Global;
 use std::sync::Wait;
 use std::thread::Threads;
-use vdiff_core::Writer;
 use vrepl_choices::Until;
 use vrepl_main::{
     CommandRefusal, FollowInputs, Followed, GivenFeed, InputName, Progress, RunCourse, Unfollowed,

@@ -6,7 +6,7 @@ ghost use Rattle.vrepl.specs.Kept.{IsUnkept, IsUnplaced};
 use crate::answering::files_of;
 use crate::telling::Teller;
 use kept_file::{KeepFault, Place, PlaceFault};
-use vdiff_core::Writer;
+use printing::Writer;
 use vrepl_main::{
     CommandRefusal, Untold, joined_checkpoint, read_join, read_step, refuse, refuse_unjoined,
     saved_checkpoint, tell_refused,

@@ -6,10 +6,10 @@ ghost use Rattle.vrepl_main.specs.Inputs.{IsUnreadAmong};
 ghost use Rattle.vrepl_main.specs.declared.input.InputName.TheVariants.{File};
 
 use crate::files::{FileInputs, file_place, print_file, read_files};
+use printing::{Out, put_all};
 use refusal_json::{Details, print_refusal};
 use status_said::{StatusEnd, status};
 use std::alloc::Global;
-use vdiff_core::{Out, put_all};
 use vrepl_choices::ReportForm;
 use vrepl_main::CommandRefusal;
 use vrepl_refusal::refuse_as;

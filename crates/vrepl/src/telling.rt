@@ -4,6 +4,7 @@ use crate::drawing::{Page, push_clock};
 use crate::line_count::lines_in;
 use crate::way::{Parts, Way};
 use pace::Meter;
+use printing::{Out, OutFailed};
 use std::alloc::{AllocError, Global};
 use std::io::IsTerminal;
 use std::sync::Arc;
@@ -11,7 +12,6 @@ use std::sync::atomic::{AtomicBool, AtomicU64, Ordering};
 use std::thread::Threads;
 use std::time::{Duration, Instant};
 use std::{fs, thread};
-use vdiff_core::{Out, OutFailed};
 use vrepl_main::Reading;
 use vrepl_words::words::Words;
 

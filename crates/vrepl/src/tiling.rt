@@ -5,9 +5,9 @@ ghost use Rattle.vrepl.specs.Tiled.{TilesEnds};
 
 use crate::files::{FileInputs, print_file};
 use filter_rule::PlanFault;
+use printing::Out;
 use std::alloc::Global;
 use tiles_said::{TilesEnd, TilesFault, tiles};
-use vdiff_core::Out;
 use vrepl_main::{CommandRefusal, refuse};
 
 /// Prints the line of a refused file, and behind it which one it is.

@@ -6,7 +6,7 @@ ghost use Rattle.vrepl_main.specs.Inputs.{IsUnreadAmong};
 ghost use Rattle.vrepl_main.specs.declared.input.InputName.TheVariants.{File};
 
 use crate::keeping::{Keeping, keep, misnamed, place_of};
-use vdiff_core::{Writer, put_all};
+use printing::{Writer, put_all};
 use vrepl_main::{CommandRefusal, Untold, read_inputs, run_inputs};
 use vrepl_transcribe::{TranscribeEnd, TranscribeInputs, Untranscribed, transcribe, transcribed};
 use vrepl_words::words::Transcribe;

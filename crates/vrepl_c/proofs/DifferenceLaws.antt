@@ -4,10 +4,10 @@ use Rattle.std.proofs.lemmas.List.Concat.{flat_map-append}
 use Rattle.filter_rule.specs.PlanTable.{TableValue}
 use Rattle.pk_copy.specs.KeyOrder.{key_cmp}
 use Rattle.target_tables.specs.Rising.{IsRising}
-use Rattle.vdiff_core.specs.DumpRowsValue.{DumpRowsValue}
-use Rattle.vdiff_tables.specs.Differences.{Difference}
-use Rattle.vdiff_tables.specs.Found.{IsNextDifference}
-use Rattle.vdiff_tables.proofs.DifferenceLaws.{AreFoundTo, found_more, found_none}
+use Rattle.dump.specs.DumpRowsValue.{DumpRowsValue}
+use Rattle.vdiff.specs.Differences.{Difference}
+use Rattle.vdiff.specs.Found.{IsNextDifference}
+use Rattle.vdiff.proofs.DifferenceLaws.{AreFoundTo, found_more, found_none}
 use Rattle.vrepl_c.specs.Dumps.{difference_bytes, differences_bytes}
 
 -- so many are found and their bytes added

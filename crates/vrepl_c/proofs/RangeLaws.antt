@@ -1,7 +1,7 @@
 -- Ranges that are read one behind the other.
 use Rattle.std.proofs.Common.{◌≡◌, ◌∙◌, ℕ, List, [], ◌∷◌, ◌++◌, Result, Ok, Err, refl, sym, ap, append_assoc}
 use Rattle.std.specs.Result.{result_map_both}
-use Rattle.outcome.specs.Outcome.{◌>>=◌}
+use Rattle.list_laws.specs.Outcome.{◌>>=◌}
 use Rattle.vindex.specs.Bounds.{Bounds}
 use Rattle.vrepl_c.specs.Readers.{range_in, ranges_in}
 

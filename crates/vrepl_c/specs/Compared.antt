@@ -1,7 +1,7 @@
 -- What a call that compares two dumps gives (this profile).
 use Rattle.std.specs.Prelude.{◌≡◌, ◌⊎◌, ℕ, Bool, true, false, List}
 use Rattle.filter_rule.specs.PlanValue.{PlanValue}
-use Rattle.vdiff_core.specs.declared.report.Report.{Report}
+use Rattle.vdiff.specs.declared.report.Report.{Report}
 use Rattle.vrepl_c.specs.Dumps.{AreCompared, IsBadLine}
 use Rattle.vrepl_c.specs.Room.{IsPut}
 use Rattle.vrepl_c.specs.declared.compare.Counts.{Counts}

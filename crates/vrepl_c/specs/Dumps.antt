@@ -4,11 +4,11 @@ use Rattle.std.specs.List.{flat_map}
 use Rattle.filter_rule.specs.PlanTable.{TableValue, name_of_table}
 use Rattle.filter_rule.specs.PlanValue.{PlanValue}
 use Rattle.pk_copy.specs.KeyValue.{KeyValue}
-use Rattle.vdiff_core.specs.DumpReading.{IsDump, IsFirstBad}
-use Rattle.vdiff_core.specs.DumpRowsValue.{RowValue, DumpRowsValue}
-use Rattle.vdiff_core.specs.Report.{report_of}
-use Rattle.vdiff_core.specs.declared.report.Report.{Report}
-use Rattle.vdiff_tables.specs.Differences.{AreFirstDifferences, Difference}
+use Rattle.dump.specs.DumpReading.{IsDump, IsFirstBad}
+use Rattle.dump.specs.DumpRowsValue.{RowValue, DumpRowsValue}
+use Rattle.vdiff.specs.Report.{report_of}
+use Rattle.vdiff.specs.declared.report.Report.{Report}
+use Rattle.vdiff.specs.Differences.{AreFirstDifferences, Difference}
 use Rattle.vrepl_c.specs.Encoded.{bytes_behind, key_bytes, row_bytes}
 use Rattle.vrepl_c.specs.Room.{IsPut}
 

@@ -4,7 +4,7 @@ use Rattle.std.specs.List.{slice_split}
 use Rattle.std.specs.Result.{result_map_both}
 use Rattle.std.specs.Option.{ok_or}
 use Rattle.std.specs.Str.{is_utf8}
-use Rattle.outcome.specs.Outcome.{◌>>=◌, each}
+use Rattle.list_laws.specs.Outcome.{◌>>=◌, each}
 use Rattle.gtid_set.specs.declared.interval.Interval.{Interval}
 use Rattle.gtid_set.specs.Fault as gtid
 use Rattle.gtid_set.specs.Text.{position_of_text}

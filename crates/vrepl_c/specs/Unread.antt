@@ -1,9 +1,9 @@
 -- Why a step of the code reads no dump.
 use Rattle.std.specs.Prelude.{ℕ, List}
 use Rattle.filter_rule.specs.PlanValue.{PlanValue}
-use Rattle.vdiff_core.specs.DumpReading.{IsFirstBad}
-use Rattle.vdiff_core.specs.declared.reading.DumpFault.{DumpFault}
-use Rattle.vdiff_core.specs.declared.reading.DumpFault.TheVariants.{BadDump, Memory}
+use Rattle.dump.specs.DumpReading.{IsFirstBad}
+use Rattle.dump.specs.declared.reading.DumpFault.{DumpFault}
+use Rattle.dump.specs.declared.reading.DumpFault.TheVariants.{BadDump, Memory}
 
 -- the line is the first that can't stand, unless memory ran out
 abbrev pub IsUnread : PlanValue → List ℕ → DumpFault → Type 0

@@ -2,7 +2,7 @@
 use Rattle.std.specs.Prelude.{ℕ, ◌==◌, not, List, length, Bool, Option, Some, None, Result, Ok, Err, slice_get}
 use Rattle.std.specs.Result.{result_map_both}
 use Rattle.std.specs.Option.{ok_or}
-use Rattle.outcome.specs.Outcome.{◌>>=◌, refused_if}
+use Rattle.list_laws.specs.Outcome.{◌>>=◌, refused_if}
 use Rattle.row_view.specs.Row.{row_of_message}
 use Rattle.row_view.specs.FaultNumber as row
 use Rattle.vindex.specs.FaultNumber as vindex

@@ -7,13 +7,14 @@ ghost use Rattle.vrepl_c.specs.Dumps.{AreCompared};
 ghost use Rattle.vrepl_c.specs.Workflows.{plan_of};
 
 use crate::differences::bytes_of;
-use crate::dump::BAD_DUMP;
+use crate::dumping::BAD_DUMP;
 use crate::room::{MEMORY, put};
 use crate::workflow::plan_of;
+use dump::{DumpFault, read_dump_beside, read_lined_dump};
 use filter_rule::Plan;
 use pace::Unmetered;
 use std::alloc::Global;
-use vdiff_core::{DumpFault, Report, compare, read_dump_beside, read_lined_dump};
+use vdiff::{Report, compare};
 
 /// How many keys of two dumps there are of each kind.
 #[repr(C)]

@@ -1,19 +1,19 @@
 //! The keys at which two dumps differ.
 
 ghost use Rattle.std.specs.Prelude.{◌≡◌, ◌++◌, OnOk, IfOk, List, option_copied};
-ghost use Rattle.vdiff_tables.specs.Differences.{AreFirstDifferences, Difference};
-ghost use Rattle.vdiff_tables.specs.Found.{difference_of};
+ghost use Rattle.vdiff.specs.Differences.{AreFirstDifferences, Difference};
+ghost use Rattle.vdiff.specs.Found.{difference_of};
 ghost use Rattle.vrepl_c.specs.Dumps.{difference_bytes, differences_bytes};
 ghost use Rattle.vrepl_c.specs.Encoded.{row_bytes};
 
 use crate::encoded::{push_bytes, push_row};
 use crate::keys::push_key;
+use dump::DumpRows;
 use filter_rule::Table;
 use pk_copy::keys_tie_where_they_are_equal;
 use row_view::RowBuf;
 use std::alloc::{AllocError, Global};
-use vdiff_core::DumpRows;
-use vdiff_tables::{Found, first_found, name_of_table};
+use vdiff::{Found, first_found, name_of_table};
 
 /// Adds a row that may be there.
 fn push_side(into: &mut Vec<u8>, row: Option<&RowBuf>) -> Result<(), AllocError>

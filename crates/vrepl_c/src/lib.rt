@@ -7,7 +7,7 @@
 mod checked;
 mod compare;
 mod differences;
-mod dump;
+mod dumping;
 mod encoded;
 mod groups;
 mod keys;

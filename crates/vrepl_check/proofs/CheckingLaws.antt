@@ -2,8 +2,8 @@
 use Rattle.std.proofs.Common.{◌≡◌, ◌∙◌, ℕ, Bool, List, sym, ap, subst, map, Option, Some, None, Result, Ok, Err}
 use Rattle.std.specs.Global.{Vec}
 use Rattle.std.specs.Prelude.{MatchOption}
-use Rattle.outcome.specs.Outcome as outcome
-use Rattle.outcome.specs.Outcome.{◌>>=◌}
+use Rattle.list_laws.specs.Outcome as outcome
+use Rattle.list_laws.specs.Outcome.{◌>>=◌}
 use Rattle.source_feed.specs.FaultNumber as feed
 use Rattle.source_feed.specs.declared.fault.FeedFault.{FeedFault}
 use Rattle.source_feed.specs.declared.fault.FeedFault.TheVariants as fault

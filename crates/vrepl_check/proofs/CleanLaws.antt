@@ -5,7 +5,7 @@ use Rattle.std.specs.Result.{result_ok}
 use Rattle.std.proofs.lemmas.Bool.{true≢false, eqb-true}
 use Rattle.std.proofs.lemmas.List.{length-map}
 use Rattle.std.proofs.lemmas.Option.{same_Some, none-some}
-use Rattle.outcome.specs.Outcome.{◌>>=◌, each, refused_if}
+use Rattle.list_laws.specs.Outcome.{◌>>=◌, each, refused_if}
 use Rattle.serde_json.specs.Data.{Data}
 use Rattle.filter_rule.specs.Document.{document_of}
 use Rattle.filter_rule.specs.Faults as faults

@@ -1,6 +1,6 @@
 -- What the command `check` prints of a workflow and its feeds, and its verdict (this profile).
 use Rattle.std.specs.Prelude.{◌≡◌, ℕ, ◌||◌, ◌&&◌, Bool, List, [], map, Option, None, Some, Result, Ok, Err, true, false}
-use Rattle.outcome.specs.Outcome.{◌>>=◌}
+use Rattle.list_laws.specs.Outcome.{◌>>=◌}
 use Rattle.source_feed.specs.declared.fault.FeedFault.{FeedFault}
 use Rattle.feed_check.specs.Checked.{CheckedValue, checked_feeds}
 use Rattle.feed_check.specs.Report.{ReportValue}
@@ -11,7 +11,7 @@ use Rattle.vrepl_main.specs.InputList.{bytes_of}
 use Rattle.vrepl_main.specs.Opening.{OpenedValue, opened_bytes}
 use Rattle.vrepl_main.specs.Reasons.{Reason, bad_feed}
 use Rattle.vrepl_check.specs.declared.inputs.CheckInputs.{CheckInputs}
-use Rattle.vdiff_core.specs.Printing.{Written}
+use Rattle.printing.specs.Printing.{Written}
 use Rattle.vrepl_main.specs.Command.{Ends, IsGivenText, PrintsWhole}
 use Rattle.vrepl_refusal.specs.Form.{PrintsPlacedAs}
 

@@ -12,8 +12,8 @@ use crate::placing::place_as_json;
 use check_said::Said;
 use feed_check::{Checked, check_feeds, checks_warn_unless_feeds_are_faultless};
 use pace::Meter;
+use printing::Out;
 use std::alloc::{AllocError, Global};
-use vdiff_core::Out;
 use vrepl_main::{CommandRefusal, GivenFeed, given_feeds, open_workflow};
 use vrepl_refusal::refuse_as;
 

@@ -3,11 +3,11 @@
 use crate::inputs::CheckInputs;
 use feed_places::place_of;
 use filter_rule::Plan;
+use printing::{Out, put_all};
 use shown_text::shown;
 use source_feed::{Feed, FeedFault};
 use std::alloc::{AllocError, Global};
 use std::sync::Arc;
-use vdiff_core::{Out, put_all};
 use vrepl_choices::ReportForm;
 use vrepl_main::{GivenFeed, given_feeds};
 use workflow_places::place_of as workflow_place;

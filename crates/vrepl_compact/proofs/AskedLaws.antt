@@ -5,7 +5,7 @@ use Rattle.std.specs.Arc.{arc_value}
 use Rattle.std.specs.Prelude.{MatchOption}
 use Rattle.std.specs.declared.alloc.Global.{Global}
 use Rattle.std.specs.declared.sync.Arc.{Arc}
-use Rattle.outcome.specs.Outcome.{◌>>=◌}
+use Rattle.list_laws.specs.Outcome.{◌>>=◌}
 use Rattle.filter_rule.specs.PlanValue.{PlanValue}
 use Rattle.source_feed.specs.Planned.{PlannedGroupValue, FeedValue}
 use Rattle.source_feed.specs.declared.fault.FeedFault.{FeedFault}

@@ -1,6 +1,6 @@
 -- How the command ends behind a feed that it has compacted.
 use Rattle.std.proofs.Common.{◌≡◌, ℕ, List, refl, sym, subst, inl, inr}
-use Rattle.vdiff_core.specs.Printing.{Written}
+use Rattle.printing.specs.Printing.{Written}
 use Rattle.vrepl_main.proofs.CommandLaws.{ends_printed, ends_refused}
 use Rattle.vrepl_main.specs.Printing.{PrintsOrBreaks}
 use Rattle.vrepl_compact.specs.Asked.{compact_asked}

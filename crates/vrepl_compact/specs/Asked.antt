@@ -1,6 +1,6 @@
 -- What `compact` is asked for: the feed of a stream of a workflow, or why there is none (this profile).
 use Rattle.std.specs.Prelude.{ℕ, List, Option, None, Some, Result, Ok, Err, slice_get}
-use Rattle.outcome.specs.Outcome.{◌>>=◌}
+use Rattle.list_laws.specs.Outcome.{◌>>=◌}
 use Rattle.filter_rule.specs.PlanValue.{PlanValue}
 use Rattle.filter_rule.specs.Reading.{plans_of}
 use Rattle.source_feed.specs.Planned.{groups_under, FeedValue}

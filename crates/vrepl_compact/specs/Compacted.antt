@@ -12,7 +12,7 @@ use Rattle.compact_limit.specs.Limit.{SaysOf, IsLimit}
 use Rattle.compact_limit.specs.Refused.{meant_of, IsRefusedLimit}
 use Rattle.compact_limit.specs.declared.fault.LimitFault.{LimitFault}
 use Rattle.compaction.specs.declared.fault.CompactFault.{CompactFault}
-use Rattle.vdiff_core.specs.Printing.{Written, IsWritten, BreaksOff}
+use Rattle.printing.specs.Printing.{Written, IsWritten, BreaksOff}
 use Rattle.vrepl_main.specs.Command.{Ends}
 use Rattle.vrepl_main.specs.InputList.{bytes_of}
 use Rattle.vrepl_main.specs.Printing.{PrintsOrBreaks}

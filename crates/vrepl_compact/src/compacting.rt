@@ -15,10 +15,10 @@ use crate::refusal::{Uncompacted, refuse_uncompacted};
 use compaction::{CompactFault, CompactedFeed, Compaction, compact as compact_feed};
 use filter_rule::Plan;
 use pace::Meter;
+use printing::Out;
 use source_feed::Feed;
 use std::alloc::{AllocError, Global};
 use std::sync::Arc;
-use vdiff_core::Out;
 use vrepl_main::{CommandRefusal, GivenFeed, refuse};
 
 /// A compacted feed, and what is told of it.

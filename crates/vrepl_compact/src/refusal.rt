@@ -9,10 +9,10 @@ use apply_core::ResumeFault;
 use compact_limit::LimitFault;
 use compaction::CompactFault;
 use filter_rule::Plan;
+use printing::{Out, OutFailed, put_all};
 use source_feed::FeedFault;
 use std::alloc::AllocError;
 use std::sync::Arc;
-use vdiff_core::{Out, OutFailed, put_all};
 use vrepl_main::{CommandRefusal, Unfollowed, refuse, refuse_unfollowed};
 
 /// The line of a feed that has rows which would be lost.

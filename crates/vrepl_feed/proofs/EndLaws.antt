@@ -1,6 +1,6 @@
 -- How the command ends behind a feed that it has made.
 use Rattle.std.proofs.Common.{ℕ, List, sym, subst, inl, inr}
-use Rattle.vdiff_core.specs.Printing.{Written}
+use Rattle.printing.specs.Printing.{Written}
 use Rattle.vrepl_main.proofs.CommandLaws.{ends_printed, ends_refused}
 use Rattle.vrepl_feed.specs.Fed.{IsFed, IsPrinted, PrintsFed, PrintsUnfed, FeedEnds}
 use Rattle.vrepl_feed.specs.declared.inputs.FeedInputs.{FeedInputs}

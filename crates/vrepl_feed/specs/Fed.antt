@@ -3,7 +3,7 @@ use Rattle.std.specs.Prelude.{◌≡◌, ◌⊎◌, ℕ, List, [], codes, Option
 use Rattle.filter_rule.specs.PlanValue.{PlanValue}
 use Rattle.filter_rule.specs.Reading.{plans_of}
 use Rattle.source_feed.specs.Planned.{PlannedGroupValue, groups_under}
-use Rattle.vdiff_core.specs.Printing.{Written, IsWritten, BreaksOff}
+use Rattle.printing.specs.Printing.{Written, IsWritten, BreaksOff}
 use Rattle.vrepl_choices.specs.declared.feed_form.FeedForm.TheVariants.{Bytes}
 use Rattle.vrepl_main.specs.Command.{Ends}
 use Rattle.vrepl_main.specs.Printing.{PrintsOrBreaks}

@@ -8,9 +8,9 @@ use crate::inputs::FeedInputs;
 use crate::refusal::{Unfed, refuse_unfed};
 use feed_text::{feed_of_text, feed_of_text_under};
 use filter_rule::Plan;
+use printing::{Out, put_all};
 use std::alloc::Global;
 use std::sync::Arc;
-use vdiff_core::{Out, put_all};
 use vrepl_main::{CommandRefusal, refuse};
 
 /// Prints on `out` the feed of which `show` prints a text, under the plan of a stream of a workflow where one is given; or

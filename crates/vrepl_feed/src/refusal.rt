@@ -2,14 +2,14 @@
 
 ghost use Rattle.std.specs.Prelude.{◌≡◌, ◌++◌, ◌∷◌, [], codes, decimal};
 ghost use Rattle.feed_text.specs.declared.fault.TextFault.{TextFault};
-ghost use Rattle.vdiff_core.specs.Printing.{Adds};
+ghost use Rattle.printing.specs.Printing.{Adds};
 ghost use Rattle.vrepl_main.specs.Printing.{PrintsOrBreaks};
 ghost use Rattle.vrepl_feed.specs.Refusals.{text_line, unfed_line};
 
 use feed_text::{FeedTextError, TextFault};
 use filter_rule::PlanFault;
+use printing::{Gathered, Out, OutFailed};
 use std::alloc::AllocError;
-use vdiff_core::{Gathered, Out, OutFailed};
 use vrepl_main::{CommandRefusal, refuse};
 
 /// Why a text is no feed's.

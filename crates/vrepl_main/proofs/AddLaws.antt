@@ -1,8 +1,8 @@
 -- Text that is added piece by piece behind text that waits: what is added and what is left are the whole.
 use Rattle.std.proofs.Common.{◌≡◌, ℕ, List, [], ◌++◌, sym, ap, ◌∙◌, subst, refl, append_assoc, append-nil, inl, inr, Result, Ok, Err}
-use Rattle.vdiff_core.specs.Printing.{Written, Prints}
-use Rattle.vdiff_core.specs.Printing as library
-use Rattle.vdiff_core.proofs.PrintLaws.{adds_none, added_more, added_breaks, adding_breaks, adds_then_prints}
+use Rattle.printing.specs.Printing.{Written, Prints}
+use Rattle.printing.specs.Printing as library
+use Rattle.printing.proofs.PrintLaws.{adds_none, added_more, added_breaks, adding_breaks, adds_then_prints}
 use Rattle.vrepl_main.specs.Printing.{PrintsOrBreaks}
 use Rattle.vrepl_main.specs.Adding.{WriterPlace, at, IsTextPut, IsBegun, AddsText, IsPutUpTo}
 

@@ -1,11 +1,11 @@
 -- What a command leaves on its writers, by what there is to print.
 use Rattle.std.proofs.Common.{◌≡◌, ℕ, List, refl, sym, ap, subst, Result, Ok, inl, inr, arith, ◌⊎◌, ◌≤◌}
-use Rattle.outcome.specs.Outcome as outcome
+use Rattle.list_laws.specs.Outcome as outcome
 use Rattle.source_feed.specs.FaultNumber as feed
 use Rattle.source_feed.specs.GroupValue.{GroupValue}
 use Rattle.source_feed.specs.declared.fault.FeedFault.{FeedFault}
 use Rattle.source_feed.specs.declared.fault.FeedFault.TheVariants as fault
-use Rattle.vdiff_core.specs.Printing.{Written, IsWritten, BreaksOff}
+use Rattle.printing.specs.Printing.{Written, IsWritten, BreaksOff}
 use Rattle.vrepl_main.specs.Reasons.{Reason, RefusesInputs}
 use Rattle.vrepl_main.specs.Command.{BreaksOffIn, PrintsWhole, RefusesCommand, IsUnwritten, Ends}
 use Rattle.vrepl_main.specs.RefusalOf.{refusal_of_feed}

@@ -1,6 +1,6 @@
 -- Feeds that end at positions, behind what is opened.
 use Rattle.std.proofs.Common.{◌≡◌, ◌∙◌, ap, ℕ, ◌+◌, List, [], ◌∷◌, refl, Result, Ok, Err}
-use Rattle.outcome.specs.Outcome.{Refuses}
+use Rattle.list_laws.specs.Outcome.{Refuses}
 use Rattle.filter_rule.specs.PlanValue.{PlanValue}
 use Rattle.source_feed.specs.Planned.{FeedValue}
 use Rattle.vrepl_choices.specs.UntilValue.{UntilValue}

@@ -15,7 +15,7 @@ use Rattle.board_laws.specs.Sources.{ShowAll}
 use Rattle.join_laws.specs.Compatible.{AreCompatible}
 use Rattle.join_laws.specs.Joined.{joined}
 use Rattle.apply_core.specs.Resuming.{IsResumed}
-use Rattle.vdiff_core.specs.Printing.{Written, BreaksOff}
+use Rattle.printing.specs.Printing.{Written, BreaksOff}
 use Rattle.vrepl_main.specs.declared.joining.Unjoined.{Unjoined}
 use Rattle.vrepl_main.specs.declared.joining.Unjoined.TheVariants.{Given, One, Other, Boards}
 use Rattle.vrepl_main.specs.Command.{BreaksOffIn}

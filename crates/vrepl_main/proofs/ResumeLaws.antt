@@ -5,7 +5,7 @@ use Rattle.filter_rule.specs.PlanValue.{PlanValue}
 use Rattle.source_feed.specs.Planned.{FeedValue}
 use Rattle.board_laws.specs.FedBoards.{Fed}
 use Rattle.board_laws.specs.Meaning.{Meaning}
-use Rattle.vdiff_core.specs.Printing.{Written, IsWritten, BreaksOff}
+use Rattle.printing.specs.Printing.{Written, IsWritten, BreaksOff}
 use Rattle.apply_core.specs.Resuming.{IsResumed}
 use Rattle.vrepl_main.specs.declared.resuming.ResumeRefusal.{ResumeRefusal}
 use Rattle.step_script.specs.declared.script.ScriptStep.{ScriptStep}

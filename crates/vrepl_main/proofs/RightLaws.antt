@@ -5,7 +5,7 @@ use Rattle.std.specs.Option.{option_or}
 use Rattle.std.specs.Result.{result_ok}
 use Rattle.std.proofs.lemmas.Option.{same_Some, none-some}
 use borrow.Author.Tests.{eqb-true}
-use Rattle.outcome.specs.Outcome.{◌>>=◌, refused_if}
+use Rattle.list_laws.specs.Outcome.{◌>>=◌, refused_if}
 use Rattle.filter_rule.specs.PlanValue.{PlanValue}
 use Rattle.filter_rule.specs.Reading.{plans_of}
 use Rattle.filter_rule.specs.Faults as faults
@@ -13,9 +13,9 @@ use Rattle.pk_copy.specs.KeyValue.{KeyValue}
 use Rattle.source_feed.specs.History.{KeptRow}
 use Rattle.source_feed.specs.Planned.{PlannedGroupValue, FeedValue, groups_under}
 use Rattle.source_feed.specs.declared.fault.FeedFault.{FeedFault}
-use Rattle.vdiff_core.specs.Dump.{dump_of}
-use Rattle.vdiff_core.specs.DumpRowsValue.{DumpRowsValue, row_with_key}
-use Rattle.vdiff_core.specs.Printing.{Written, IsWritten}
+use Rattle.dump.specs.Dump.{dump_of}
+use Rattle.dump.specs.DumpRowsValue.{DumpRowsValue, row_with_key}
+use Rattle.printing.specs.Printing.{Written, IsWritten}
 use Rattle.apply_core.specs.Ended.{AreSound, IsRowsUnion, kept_of_feed, kept_by}
 use Rattle.vrepl_main.specs.HexText.{feed_bytes}
 use Rattle.vrepl_main.specs.InputList.{bytes_of}

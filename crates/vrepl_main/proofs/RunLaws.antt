@@ -2,8 +2,8 @@
 use Rattle.std.proofs.Common.{◌≡◌, ◌∙◌, ap, sym, subst, ℕ, List, map, refl, Option, Some, Result, Ok, Err}
 use Rattle.std.specs.Prelude.{slice_get}
 use Rattle.filter_rule.specs.PlanValue.{PlanValue}
-use Rattle.vdiff_core.specs.Dump.{dump_of}
-use Rattle.vdiff_core.specs.Printing.{Written, BreaksOff}
+use Rattle.dump.specs.Dump.{dump_of}
+use Rattle.printing.specs.Printing.{Written, BreaksOff}
 use Rattle.board_laws.specs.Meaning.{Meaning}
 use Rattle.apply_core.specs.Shown.{all_rows}
 use Rattle.apply_core.specs.RunRefused.{IsRefusedRun}

@@ -3,8 +3,8 @@ use Rattle.std.proofs.Common.{ℕ, List, map, sym, subst}
 use Rattle.pk_copy.specs.KeyValue.{KeyValue}
 use Rattle.row_view.specs.Row.{RowValue}
 use Rattle.source_feed.specs.Planned.{FeedValue}
-use Rattle.vdiff_core.specs.DumpRowsValue.{DumpRowsValue}
-use Rattle.vdiff_core.specs.Printing.{Written}
+use Rattle.dump.specs.DumpRowsValue.{DumpRowsValue}
+use Rattle.printing.specs.Printing.{Written}
 use Rattle.vrepl_choices.specs.UntilValue.{UntilValue, until_value}
 use Rattle.run_says.specs.Laws.{AreGiven, FeedKeeps, AreRowsOf, RunsAreRight}
 use Rattle.run_says.specs.RunIsRight as said

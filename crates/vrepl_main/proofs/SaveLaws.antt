@@ -13,7 +13,7 @@ use Rattle.board_laws.specs.Sources.{ShowAll}
 use Rattle.checkpoint_laws.specs.Written.{checkpoint_of}
 use Rattle.apply_core.specs.Fresh.{fresh_board}
 use Rattle.step_script.specs.declared.script.ScriptStep.{ScriptStep}
-use Rattle.vdiff_core.specs.Printing.{BreaksOff, IsWritten, Written}
+use Rattle.printing.specs.Printing.{BreaksOff, IsWritten, Written}
 use Rattle.vrepl_main.specs.Command.{IsUnwritten, RefusesCommand}
 use Rattle.vrepl_main.specs.Reasons.{Reason}
 use Rattle.vrepl_main.specs.SavedBoard.{IsBehind, IsSavedBoard, IsSavedBehind, IsSavedText, PrintsSaved, TellsRefused, saved_status}

@@ -6,8 +6,8 @@ use Rattle.std.proofs.lemmas.List.Concat.{flat_map-cons}
 use Rattle.filter_rule.specs.PlanValue.{PlanValue}
 use Rattle.source_feed.specs.Planned.{FeedValue}
 use Rattle.board_laws.specs.Meaning.{Meaning}
-use Rattle.vdiff_core.proofs.PrintLaws.{adds_none}
-use Rattle.vdiff_core.specs.Printing.{Written, Prints}
+use Rattle.printing.proofs.PrintLaws.{adds_none}
+use Rattle.printing.specs.Printing.{Written, Prints}
 use Rattle.vrepl_main.specs.Adding.{WriterPlace, at, IsTextPut, IsBegun}
 use Rattle.step_script.specs.declared.script.ScriptStep.{ScriptStep}
 use Rattle.vrepl_main.specs.ScriptRun.{ScriptReply, IsScriptStep, IsScriptRun, reply_text, replies_text}

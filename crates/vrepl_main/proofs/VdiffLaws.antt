@@ -7,14 +7,14 @@ use Rattle.filter_rule.specs.Reading.{plans_of}
 use Rattle.filter_rule.specs.declared.fault.PlanFault.{PlanFault}
 use Rattle.filter_rule.specs.declared.fault.PlanFault.TheVariants as errors
 use Rattle.pk_copy.specs.KeyValue.{KeyValue}
-use Rattle.vdiff_core.specs.DumpReading as dump
-use Rattle.vdiff_core.specs.DumpReading.{IsFirstBad, IsDumpReading}
-use Rattle.vdiff_core.specs.Printing.{Written, BreaksOff}
-use Rattle.vdiff_core.specs.Report.{report_of, IsFirstDifference}
-use Rattle.vdiff_core.specs.DumpRowsValue.{DumpRowsValue, row_with_key}
-use Rattle.vdiff_core.specs.declared.reading.DumpFault.{DumpFault}
-use Rattle.vdiff_core.specs.declared.reading.DumpFault.TheVariants as faults
-use Rattle.vdiff_core.specs.declared.report.Report.{Report}
+use Rattle.dump.specs.DumpReading as dump
+use Rattle.dump.specs.DumpReading.{IsFirstBad, IsDumpReading}
+use Rattle.printing.specs.Printing.{Written, BreaksOff}
+use Rattle.vdiff.specs.Report.{report_of, IsFirstDifference}
+use Rattle.dump.specs.DumpRowsValue.{DumpRowsValue, row_with_key}
+use Rattle.dump.specs.declared.reading.DumpFault.{DumpFault}
+use Rattle.dump.specs.declared.reading.DumpFault.TheVariants as faults
+use Rattle.vdiff.specs.declared.report.Report.{Report}
 use Rattle.vrepl_main.specs.declared.refusal.CommandRefusal.{CommandRefusal}
 use Rattle.vrepl_main.specs.declared.refusal.CommandRefusal.TheVariants.{Memory, Workflow, NoStream, FeedCount, NotReached, Feed, BadHex, BadScript, BadDump, Changed, CannotRead, CannotWrite}
 use Rattle.vrepl_main.specs.Reasons.{bad_workflow, no_stream, feed_count, not_reached, bad_hex, bad_feed, bad_script, bad_dump}

@@ -1,7 +1,7 @@
 -- What a call that adds text behind text that waits leaves on its writer: the whole text is added, or at a fault,
 -- which comes of a write that failed, a beginning of what waited and of the text was written (this profile).
 use Rattle.std.specs.Prelude.{◌≡◌, ℕ, List, ◌++◌, Result, Ok, Err}
-use Rattle.vdiff_core.specs.Printing.{Written, IsAdded, BreaksOff}
+use Rattle.printing.specs.Printing.{Written, IsAdded, BreaksOff}
 
 -- what a writer took, and what waits to be written behind it
 pub record WriterPlace : Type 0 where

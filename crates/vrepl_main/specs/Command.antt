@@ -1,6 +1,6 @@
 -- How a command ends, and what one that prints a text, or refuses, leaves on its writers (this profile).
 use Rattle.std.specs.Prelude.{◌≡◌, ◌⊎◌, ℕ, List, Result, Ok, Err, codes}
-use Rattle.vdiff_core.specs.Printing.{Written, IsWritten, BreaksOff}
+use Rattle.printing.specs.Printing.{Written, IsWritten, BreaksOff}
 use Rattle.vrepl_main.specs.Printing.{PrintsOrBreaks}
 use Rattle.vrepl_main.specs.Reasons.{Reason, RefusesInputs}
 use Rattle.vrepl_main.specs.Refusals.{refusal_line}

@@ -5,17 +5,17 @@ use Rattle.filter_rule.specs.PlanTable.{TableValue, name_of_table}
 use Rattle.filter_rule.specs.PlanValue.{PlanValue}
 use Rattle.filter_rule.specs.Reading.{plans_of}
 use Rattle.pk_copy.specs.KeyValue.{KeyValue}
-use Rattle.vdiff_core.specs.DumpReading.{IsDumpReading}
-use Rattle.vdiff_core.specs.Printing.{Written, IsWritten, BreaksOff}
-use Rattle.vdiff_core.specs.Report.{report_of, IsFirstDifference}
-use Rattle.vdiff_core.specs.DumpRowsValue.{DumpRowsValue}
-use Rattle.vdiff_core.specs.declared.report.Report.{Report}
+use Rattle.dump.specs.DumpReading.{IsDumpReading}
+use Rattle.printing.specs.Printing.{Written, IsWritten, BreaksOff}
+use Rattle.vdiff.specs.Report.{report_of, IsFirstDifference}
+use Rattle.dump.specs.DumpRowsValue.{DumpRowsValue}
+use Rattle.vdiff.specs.declared.report.Report.{Report}
 use Rattle.vrepl_main.specs.Command.{RefusesCommand, Ends}
 use Rattle.vrepl_main.specs.Printing.{PrintsOrBreaks}
 use Rattle.vrepl_main.specs.Reasons.{Reason, bad_workflow, bad_dump}
 use Rattle.vrepl_main.specs.Refusals.{refusal_line}
-use Rattle.vdiff_core.specs.declared.writer.OutFailed.{OutFailed}
-use Rattle.vdiff_core.specs.KeyText.{key_text}
+use Rattle.printing.specs.declared.writer.OutFailed.{OutFailed}
+use Rattle.dump.specs.KeyText.{key_text}
 use Rattle.vrepl_main.specs.declared.comparing.Verdict.{Verdict}
 use Rattle.vrepl_main.specs.declared.comparing.Verdict.TheVariants.{Same, Differ}
 use Rattle.vrepl_main.specs.declared.refusal.CommandRefusal.{CommandRefusal}

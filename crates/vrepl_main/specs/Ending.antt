@@ -1,6 +1,6 @@
 -- A workflow's feeds up to the positions that are given (this profile).
 use Rattle.std.specs.Prelude.{List, Result, Ok, Err}
-use Rattle.outcome.specs.Outcome.{◌>>=◌}
+use Rattle.list_laws.specs.Outcome.{◌>>=◌}
 use Rattle.source_feed.specs.Planned.{FeedValue}
 use Rattle.source_feed.specs.declared.fault.FeedFault.TheVariants.{BadPosition}
 use Rattle.vrepl_choices.specs.UntilValue.{UntilValue}

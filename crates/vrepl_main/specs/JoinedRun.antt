@@ -13,7 +13,7 @@ use Rattle.join_laws.specs.declared.fault.JoinFault.{JoinFault}
 use Rattle.checkpoint_laws.specs.Written.{checkpoint_of}
 use Rattle.checkpoint_laws.specs.declared.fault.ResumeFault.{ResumeFault}
 use Rattle.apply_core.specs.Resuming.{IsResumed}
-use Rattle.vdiff_core.specs.Printing.{Written, IsWritten}
+use Rattle.printing.specs.Printing.{Written, IsWritten}
 use Rattle.vrepl_main.specs.declared.joining.Unjoined.{Unjoined}
 use Rattle.vrepl_main.specs.declared.joining.Unjoined.TheVariants.{Given, One, Other, Boards}
 use Rattle.vrepl_main.specs.Command.{RefusesCommand, Ends}

@@ -1,7 +1,7 @@
 -- What `follow` makes where streams are named that are to run alone (this profile).
 use Rattle.std.specs.Prelude.{◌≡◌, ℕ, nat_lt, Bool, not, List, length, Option, Some, None, Result, Ok, slice_get, map, true}
 use Rattle.std.specs.List.{list_all}
-use Rattle.outcome.specs.Outcome.{◌>>=◌, refused_if}
+use Rattle.list_laws.specs.Outcome.{◌>>=◌, refused_if}
 use Rattle.filter_rule.specs.PlanValue.{PlanValue}
 use Rattle.filter_rule.specs.Reading.{plans_of}
 use Rattle.source_feed.specs.Planned.{FeedValue}

@@ -1,6 +1,6 @@
 -- A workflow with its feeds, as a command opens them (this profile).
 use Rattle.std.specs.Prelude.{ℕ, ◌==◌, not, length, List, [], ◌∷◌, map, Option, None, Some, Result, Ok, Err}
-use Rattle.outcome.specs.Outcome.{◌>>=◌, refused_if}
+use Rattle.list_laws.specs.Outcome.{◌>>=◌, refused_if}
 use Rattle.filter_rule.specs.Faults as plans
 use Rattle.filter_rule.specs.PlanValue.{PlanValue}
 use Rattle.filter_rule.specs.Reading.{plans_of}

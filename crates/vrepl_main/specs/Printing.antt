@@ -1,6 +1,6 @@
 -- What a call that tries to print a text leaves on its writer, and a number in such a text (this profile).
 use Rattle.std.specs.Prelude.{◌⊎◌, ℕ, List, ◌++◌, decimal}
-use Rattle.vdiff_core.specs.Printing.{Written, IsWritten, BreaksOff}
+use Rattle.printing.specs.Printing.{Written, IsWritten, BreaksOff}
 
 -- the whole text was printed, or a beginning of it and then a write failed
 abbrev pub PrintsOrBreaks : Written → Written → List ℕ → Type 0

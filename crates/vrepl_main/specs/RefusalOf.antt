@@ -5,8 +5,8 @@ use Rattle.source_feed.specs.declared.fault.FeedFault.{FeedFault}
 use Rattle.source_feed.specs.declared.fault.FeedFault.TheVariants as feed
 use Rattle.feed_ends.specs.declared.fault.EndFault.{EndFault}
 use Rattle.feed_ends.specs.declared.fault.EndFault.TheVariants as ends
-use Rattle.vdiff_core.specs.declared.reading.DumpFault.{DumpFault}
-use Rattle.vdiff_core.specs.declared.reading.DumpFault.TheVariants as dumps
+use Rattle.dump.specs.declared.reading.DumpFault.{DumpFault}
+use Rattle.dump.specs.declared.reading.DumpFault.TheVariants as dumps
 use Rattle.vrepl_main.specs.declared.hex_text.HexFault.{HexFault}
 use Rattle.vrepl_main.specs.declared.hex_text.HexFault.TheVariants as hex
 use Rattle.vrepl_main.specs.declared.refusal.CommandRefusal.{CommandRefusal}

@@ -3,7 +3,7 @@ use Rattle.std.specs.Prelude.{ℕ, List, [], ◌++◌, Some, codes, decimal}
 use Rattle.filter_rule.specs.PlanTable.{TableValue, name_of_table}
 use Rattle.pk_copy.specs.KeyValue.{KeyValue}
 use Rattle.stream_core.specs.declared.refusal.CoreRefusal.TheVariants.{Gap}
-use Rattle.vdiff_core.specs.KeyText.{key_text}
+use Rattle.dump.specs.KeyText.{key_text}
 use Rattle.source_feed.specs.declared.fault.FeedFault.{FeedFault}
 use Rattle.source_feed.specs.declared.fault.FeedFault.TheVariants.{BadRow, NoGroup}
 use Rattle.board_laws.specs.Refusals.{number_of_step}

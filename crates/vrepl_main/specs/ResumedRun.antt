@@ -5,7 +5,7 @@ use Rattle.filter_rule.specs.PlanValue.{PlanValue}
 use Rattle.board_laws.specs.Meaning.{Meaning}
 use Rattle.checkpoint_laws.specs.declared.fault.ResumeFault.{ResumeFault}
 use Rattle.apply_core.specs.Resuming.{IsResumed, IsRefusedResume}
-use Rattle.vdiff_core.specs.Printing.{Written, IsWritten}
+use Rattle.printing.specs.Printing.{Written, IsWritten}
 use Rattle.vrepl_main.specs.declared.resuming.ResumeRefusal.{ResumeRefusal}
 use Rattle.vrepl_main.specs.declared.resuming.ResumeRefusal.TheVariants.{Given, Checkpoint}
 use Rattle.step_script.specs.declared.script.ScriptStep.{ScriptStep}

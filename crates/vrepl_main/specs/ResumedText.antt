@@ -2,7 +2,7 @@
 use Rattle.std.specs.Prelude.{ℕ, List, [], ◌++◌, codes, decimal}
 use Rattle.filter_rule.specs.PlanTable.{TableValue, name_of_table}
 use Rattle.pk_copy.specs.KeyValue.{KeyValue}
-use Rattle.vdiff_core.specs.KeyText.{key_text}
+use Rattle.dump.specs.KeyText.{key_text}
 use Rattle.checkpoint_laws.specs.Faults.{number_of}
 use Rattle.checkpoint_laws.specs.declared.fault.ResumeFault.{ResumeFault}
 use Rattle.checkpoint_laws.specs.declared.fault.ResumeFault.TheVariants.{PositionUnknown, Unsound, CheckpointDiffers, OwnedByOther}

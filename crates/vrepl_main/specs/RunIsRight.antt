@@ -8,9 +8,9 @@ use Rattle.pk_copy.specs.KeyValue.{KeyValue}
 use Rattle.target_tables.specs.Rising.{IsRising}
 use Rattle.source_feed.specs.History.{KeptRow}
 use Rattle.source_feed.specs.Planned.{FeedValue, groups_under}
-use Rattle.vdiff_core.specs.Dump.{dump_of}
-use Rattle.vdiff_core.specs.DumpRowsValue.{DumpRowsValue, row_with_key}
-use Rattle.vdiff_core.specs.Printing.{Written, IsWritten}
+use Rattle.dump.specs.Dump.{dump_of}
+use Rattle.dump.specs.DumpRowsValue.{DumpRowsValue, row_with_key}
+use Rattle.printing.specs.Printing.{Written, IsWritten}
 use Rattle.apply_core.specs.Ended.{AreSound, kept_of_feed}
 use Rattle.vrepl_choices.specs.UntilValue.{UntilValue, until_value}
 use Rattle.feed_ends.specs.EndedFeeds.{AreEnded}

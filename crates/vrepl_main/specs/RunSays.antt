@@ -1,6 +1,6 @@
 -- What `run` writes, by what the workflow and the feeds say where they can be read, without a fault (this profile).
 use Rattle.std.specs.Prelude.{◌≡◌, ℕ, List, map, Some}
-use Rattle.vdiff_core.specs.Printing.{Written, IsWritten}
+use Rattle.printing.specs.Printing.{Written, IsWritten}
 use Rattle.vrepl_choices.specs.UntilValue.{until_value}
 use Rattle.run_says.specs.RunIsRight.{RunIsRight}
 use Rattle.vrepl_main.specs.HexText.{feed_bytes}

@@ -2,9 +2,9 @@
 use Rattle.std.specs.Prelude.{◌≡◌, ℕ, List, map, Some, Result, Ok, Err, slice_get}
 use Rattle.std.specs.Arc.{arc_value}
 use Rattle.filter_rule.specs.PlanValue.{PlanValue}
-use Rattle.vdiff_core.specs.Dump.{dump_of}
-use Rattle.vdiff_core.specs.Printing.{Written, IsWritten}
-use Rattle.vdiff_core.specs.DumpRowsValue.{DumpRowsValue}
+use Rattle.dump.specs.Dump.{dump_of}
+use Rattle.printing.specs.Printing.{Written, IsWritten}
+use Rattle.dump.specs.DumpRowsValue.{DumpRowsValue}
 use Rattle.source_feed.specs.Planned.{FeedValue}
 use Rattle.board_laws.specs.Meaning.{Meaning}
 use Rattle.board_laws.specs.Sources.{ShowAll}

@@ -6,7 +6,7 @@ use Rattle.board_laws.specs.Meaning.{Meaning}
 use Rattle.board_laws.specs.Sources.{ShowAll}
 use Rattle.checkpoint_laws.specs.Written.{checkpoint_of}
 use Rattle.apply_core.specs.Fresh.{fresh_board}
-use Rattle.vdiff_core.specs.Printing.{Written, IsWritten}
+use Rattle.printing.specs.Printing.{Written, IsWritten}
 use Rattle.vrepl_main.specs.Reasons.{Reason}
 use Rattle.vrepl_main.specs.Printing.{PrintsOrBreaks}
 use Rattle.vrepl_main.specs.ScriptRun.{ScriptReply, ScriptGiven, IsScriptRun, IsTold, refused_count}

@@ -2,14 +2,14 @@
 use Rattle.std.specs.Prelude.{◌≡◌, ℕ, nat_lt, if◌then◌else◌, Bool, true, false, List, [], ◌∷◌, length, Option, Some, None, Result, Ok, Err, slice_get, flat_map}
 use Rattle.std.specs.List.{filter}
 use Rattle.std.specs.Option.{option_and_then}
-use Rattle.outcome.specs.Outcome.{◌>>=◌}
+use Rattle.list_laws.specs.Outcome.{◌>>=◌}
 use Rattle.filter_rule.specs.PlanValue.{PlanValue}
 use Rattle.source_feed.specs.GroupValue.{Position}
 use Rattle.source_feed.specs.Planned.{FeedValue}
 use Rattle.stream_core.specs.Standing.{Standing}
 use Rattle.stream_core.specs.declared.step.Step.{Step}
-use Rattle.vdiff_core.specs.Dump.{dump_of}
-use Rattle.vdiff_core.specs.DumpRowsValue.{DumpRowsValue}
+use Rattle.dump.specs.Dump.{dump_of}
+use Rattle.dump.specs.DumpRowsValue.{DumpRowsValue}
 use Rattle.board_laws.specs.Lawful.{standing_of}
 use Rattle.board_laws.specs.Meaning.{State, Meaning}
 use Rattle.board_laws.specs.Schedule.{Reply, IsReply}

@@ -6,7 +6,7 @@ ghost use Rattle.vrepl_main.specs.Adding.{AddsText, at};
 
 use crate::output::{put_all, put_between, put_named, put_str};
 use board_laws::{Answer, Copied, Offered};
-use vdiff_core::{Gathered, Out, OutFailed};
+use printing::{Gathered, Out, OutFailed};
 
 /// Adds the line of what a step answers: `read N`, `repeat N`, `applied N`, `snapshot N`, `copied R`
 /// with ` done` behind it where the table is done, `closed`, or `restarted N`. Takes no memory.

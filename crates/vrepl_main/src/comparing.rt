@@ -9,14 +9,13 @@ use crate::key_text::print_key;
 use crate::output::{put_all, put_between, put_str};
 use crate::refusal::{CommandRefusal, refuse};
 use crate::refused_text::name_of_table;
+use dump::{DumpRows, read_dump_beside, read_lined_dump, texts_are_read_once};
 use filter_rule::{Plan, Table};
 use pace::Meter;
 use pk_copy::Key;
+use printing::{Gathered, Out, OutFailed};
 use std::alloc::Global;
-use vdiff_core::{
-    DumpRows, Gathered, Out, OutFailed, Report, compare, first_difference, read_dump_beside,
-    read_lined_dump, texts_are_read_once,
-};
+use vdiff::{Report, compare, first_difference};
 
 /// How two dumps compare.
 #[derive(Clone, Copy)]

@@ -2,15 +2,15 @@
 
 ghost use Rattle.std.specs.Prelude.{◌≡◌, ◌≤◌, IfOk, IfErr, length};
 ghost use Rattle.std.specs.Arc.{arc_value};
-ghost use Rattle.vdiff_core.specs.Dump.{dump_of};
-ghost use Rattle.vdiff_core.specs.Printing.{Prints};
+ghost use Rattle.dump.specs.Dump.{dump_of};
+ghost use Rattle.printing.specs.Printing.{Prints};
 ghost use Rattle.apply_core.specs.Shown.{all_rows};
 ghost use Rattle.vrepl_main.specs.Running.{IsAtFeedsEnds};
 ghost use Rattle.vrepl_main.specs.CheckpointIsRight.{FollowsRight};
 ghost use Rattle.vrepl_main.specs.Followed.{IsFollowed, RefusesFollow, follow_refusal_line, follow_asked, saved_asked, HasTakenUp, HasNotFollowed};
 ghost use Rattle.vrepl_main.specs.Printing.{PrintsOrBreaks};
 
-use crate::dump::write_rows;
+use crate::dumping::write_rows;
 use crate::named_inputs::FollowInputs;
 use crate::opened::Opened;
 use crate::progress::Progress;
@@ -20,12 +20,12 @@ use crate::running::{open_streams, refuse_run, run_on_from, run_streams};
 use crate::stepping::first_plan;
 use apply_core::{Board, FedBoard, ResumeFault, RunRefusal, save as checkpoint_of};
 use filter_rule::Plan;
+use printing::{Out, OutFailed};
 use source_feed::Feed;
 use std::alloc::{AllocError, Global};
 use std::marker::Model;
 use std::sync::{Arc, Wait};
 use std::thread::Threads;
-use vdiff_core::{Out, OutFailed};
 
 /// A checkpoint that was moved on to the feeds' ends.
 #[derive(Drop)]

@@ -5,13 +5,16 @@ ghost use Rattle.vrepl_main.specs.HexText.{hex_text_digit, hex_bytes, is_skipped
 ghost use Rattle.vrepl_main.specs.declared.hex_text.HexFault.TheVariants.{Memory};
 
 use std::alloc::{AllocFailed, Global};
+use thiserror::Error;
 
 /// Why hexadecimal text is not read.
-#[derive(Clone, Copy, Debug, PartialEq, Eq)]
+#[derive(Clone, Copy, Debug, PartialEq, Eq, Error)]
 pub enum HexFault {
     /// A byte is no digit, blank, tab or end of a line, or the number of digits is odd.
+    #[error("no hexadecimal text")]
     BadHex,
     /// A growth of memory was refused.
+    #[error("out of memory")]
     Memory,
 }
 

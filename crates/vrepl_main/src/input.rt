@@ -16,13 +16,16 @@ use std::fs::{File, OpenFile};
 use std::io;
 use std::io::Read;
 use std::rt::Files;
+use thiserror::Error;
 
 /// Why an input isn't there whole.
-#[derive(Clone, Copy, Debug, PartialEq, Eq)]
+#[derive(Clone, Copy, Debug, PartialEq, Eq, Error)]
 pub enum InputFault {
     /// It can't be opened, a read failed, or it hadn't ended after the last read that it may have.
+    #[error("the input can't be read")]
     CannotRead,
     /// A growth of memory was refused.
+    #[error("out of memory")]
     Memory,
 }
 

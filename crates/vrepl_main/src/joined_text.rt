@@ -5,7 +5,7 @@ use crate::refusal_line::Telling;
 use crate::refused_text::print_clash;
 use apply_core::JoinFault;
 use filter_rule::Table;
-use vdiff_core::{Gathered, Out, OutFailed};
+use printing::{Gathered, Out, OutFailed};
 
 impl Telling for JoinFault {
     ghost use Rattle.join_laws.specs.Faults.{number_of};

@@ -21,9 +21,9 @@ use apply_core::{
 use board_laws::fed_boards_show_all;
 use filter_rule::Plan;
 use pace::Meter;
+use printing::Out;
 use std::alloc::Global;
 use std::sync::Arc;
-use vdiff_core::Out;
 
 /// Why nothing is joined.
 #[derive(Drop)]

@@ -2,14 +2,14 @@
 
 ghost use Rattle.std.specs.Prelude.{map};
 ghost use Rattle.pk_copy.specs.PartValue.{part_value};
-ghost use Rattle.vdiff_core.specs.KeyText.{part_cell, more_parts, key_text};
+ghost use Rattle.dump.specs.KeyText.{part_cell, more_parts, key_text};
 ghost use Rattle.vrepl_main.specs.Adding.{AddsText, at};
 
 use crate::output::{print_cell, put_all};
 use itoa::Buffer;
 use pk_copy::{Key, KeyPart};
+use printing::{Gathered, Out, OutFailed};
 use row_view::Column;
-use vdiff_core::{Gathered, Out, OutFailed};
 
 /// Adds a key: its parts as cells, parted by commas, a number as its shortest decimal text. Takes no
 /// memory.

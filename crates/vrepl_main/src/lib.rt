@@ -5,7 +5,7 @@ mod ahead;
 mod answer_text;
 mod at_once;
 mod comparing;
-mod dump;
+mod dumping;
 mod ending;
 mod following;
 mod following_only;

@@ -2,23 +2,23 @@
 
 ghost use Rattle.std.specs.Prelude.{◌≡◌, [], option_map};
 ghost use Rattle.std.specs.Option.{option_map_or};
-ghost use Rattle.vdiff_core.specs.Dump.{dump_of};
+ghost use Rattle.dump.specs.Dump.{dump_of};
 ghost use Rattle.apply_core.specs.Shown.{all_rows};
 ghost use Rattle.vrepl_main.specs.Adding.{AddsText, at};
 ghost use Rattle.vrepl_main.specs.ScriptRun.{AnswersStep, answers, byte_of, reply_text, standing_in, standing_reply, where_of};
 ghost use Rattle.vrepl_main.specs.ScriptPrinting.{Replies};
 
 use crate::answer_text::print_answer;
-use crate::dump::write_rows;
+use crate::dumping::write_rows;
 use crate::refusal_line::print_refused;
 use crate::state_text::print_state;
 use apply_core::{Answer, FedBoard, Refusal, StepRefusal};
 use filter_rule::Plan;
 use gtid_set::GtidSet;
+use printing::{Gathered, Out, OutFailed};
 use std::alloc::Global;
 use step_script::ScriptStep;
 use stream_core::{Cursor, Step};
-use vdiff_core::{Gathered, Out, OutFailed};
 
 /// Takes what a line of a script says on a board with its feeds, and adds its reply. Replies name tables of the plan, and
 /// rows are printed by it.

@@ -8,9 +8,9 @@ use crate::line::take_line;
 use apply_core::FedBoard;
 use filter_rule::Plan;
 use pace::Meter;
+use printing::{Gathered, Out, OutFailed};
 use std::alloc::Global;
 use step_script::ScriptStep;
-use vdiff_core::{Gathered, Out, OutFailed};
 
 /// Takes the steps of a script on a board with its feeds, one after another, and adds their replies. Each is a part that is
 /// done.

@@ -3,11 +3,12 @@
 
 ghost use Rattle.std.specs.Prelude.{◌++◌, decimal};
 ghost use Rattle.row_view.specs.ColumnValue.{column_value};
-ghost use Rattle.vdiff_core.specs.Cells.{cell, cells};
+ghost use Rattle.dump.specs.Cells.{cell, cells};
 ghost use Rattle.vrepl_main.specs.Adding.{AddsText, at};
 
+use dump::{add_cell, add_cells};
+use printing::{Gathered, Out, OutFailed};
 use row_view::{Column, Columns};
-use vdiff_core::{Gathered, Out, OutFailed, add_cell, add_cells};
 
 /// Adds all the bytes.
 pub(crate) fn put_all<W: Out>(

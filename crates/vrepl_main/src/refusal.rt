@@ -8,11 +8,12 @@ ghost use Rattle.vrepl_main.specs.Printing.{PrintsOrBreaks};
 use crate::hex_text::HexFault;
 use crate::output::{put_all, put_named, put_str};
 use crate::refusal_line::{Telling, refuse_by};
+use dump::DumpFault;
 use feed_ends::EndFault;
 use filter_rule::{PlanFault, Table};
+use printing::{Gathered, Out, OutFailed};
 use source_feed::FeedFault;
 use std::alloc::AllocError;
-use vdiff_core::{DumpFault, Gathered, Out, OutFailed};
 use vevent::EventFault;
 
 /// Why the program ends with status 1. Its line on standard error is `refused`, the number, and for

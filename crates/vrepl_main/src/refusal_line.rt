@@ -7,7 +7,7 @@ ghost use Rattle.vrepl_main.specs.RefusalLine.{line_of};
 
 use crate::output::{put_all, put_named};
 use filter_rule::{Plan, Table};
-use vdiff_core::{Gathered, Out, OutFailed};
+use printing::{Gathered, Out, OutFailed};
 
 /// What the line of a refusal tells.
 pub(crate) trait Telling {

@@ -12,9 +12,9 @@ use crate::refusal_line::Telling;
 use board_laws::{Refusal, StepRefusal};
 use filter_rule::Table;
 use pk_copy::Key;
+use printing::{Gathered, Out, OutFailed};
 use source_feed::FeedFault;
 use stream_core::CoreRefusal;
-use vdiff_core::{Gathered, Out, OutFailed};
 
 impl Telling for StepRefusal {
     ghost use Rattle.board_laws.specs.Refusals.{number_of_step};

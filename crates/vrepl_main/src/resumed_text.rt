@@ -10,7 +10,7 @@ use crate::refused_text::{name_of_table, print_clash, print_unprepared};
 use apply_core::ResumeFault;
 use filter_rule::Table;
 use pk_copy::Key;
-use vdiff_core::{Gathered, Out, OutFailed};
+use printing::{Gathered, Out, OutFailed};
 
 impl Telling for ResumeFault {
     ghost use Rattle.checkpoint_laws.specs.Faults.{number_of};

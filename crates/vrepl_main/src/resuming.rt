@@ -17,10 +17,10 @@ use crate::stepping::{first_plan, print_taken};
 use apply_core::{FedBoard, ResumeFault};
 use filter_rule::Plan;
 use pace::Meter;
+use printing::Out;
 use std::alloc::Global;
 use std::mem::forget;
 use std::sync::Arc;
-use vdiff_core::Out;
 
 /// Why nothing is resumed.
 #[derive(Drop)]

@@ -2,8 +2,8 @@
 
 ghost use Rattle.std.specs.Prelude.{◌≡◌, ◌≤◌, OnOk, IfOk, IfErr, length, map};
 ghost use Rattle.std.specs.Arc.{arc_value};
-ghost use Rattle.vdiff_core.specs.Dump.{dump_of};
-ghost use Rattle.vdiff_core.specs.Printing.{Prints};
+ghost use Rattle.dump.specs.Dump.{dump_of};
+ghost use Rattle.printing.specs.Printing.{Prints};
 ghost use Rattle.apply_core.specs.Shown.{all_rows};
 ghost use Rattle.apply_core.specs.RunRefused.{EndsRun, IsLowest, IsRefusedRun};
 ghost use Rattle.vrepl_main.specs.Command.{IsUnwritten};
@@ -21,7 +21,7 @@ ghost use Rattle.vrepl_main.specs.RunIsRight.{WritesRight};
 ghost use Rattle.vrepl_main.specs.RunSays.{WritesSaid};
 
 use crate::at_once::open_at_once;
-use crate::dump::write_rows;
+use crate::dumping::write_rows;
 use crate::ending::end_opened;
 use crate::given::{GivenFeed, given_feeds};
 use crate::named_inputs::{RunCourse, RunInputs};
@@ -34,13 +34,13 @@ use crate::told_run::{run_in_threads, run_in_turn};
 use apply_core::{Board, FedBoard, RunRefusal};
 use board_laws::StepRefusal;
 use filter_rule::Plan;
+use printing::Out;
 use run_says::runs_are_right;
 use source_feed::Feed;
 use std::alloc::Global;
 use std::mem::forget;
 use std::sync::{Arc, Wait};
 use std::thread::Threads;
-use vdiff_core::Out;
 use vrepl_choices::{Threading, Until};
 
 /// Why a run prints no dump.

@@ -10,7 +10,7 @@ ghost use Rattle.board_laws.specs.Sources.{ShowAll};
 ghost use Rattle.vrepl_main.specs.CheckpointIsRight.{MakesCheckpoint, WritesCheckpoint};
 ghost use Rattle.vrepl_main.specs.InputList.{bytes_of};
 ghost use Rattle.vrepl_main.specs.ScriptRun.{ScriptReply, answers, IsScriptStep, IsTold, refused_count, script_asked, standing_in, standing_reply};
-ghost use Rattle.vdiff_core.specs.Printing.{IsWritten, Prints};
+ghost use Rattle.printing.specs.Printing.{IsWritten, Prints};
 ghost use Rattle.vrepl_main.specs.Adding.{AddsText, at};
 ghost use Rattle.vrepl_main.specs.Printing.{PrintsOrBreaks};
 ghost use Rattle.vrepl_main.specs.Reasons.{RefusesInputs};
@@ -27,12 +27,12 @@ use crate::scripted::{Scripted, open_scripted};
 use crate::stepping::fresh_board;
 use apply_core::{Answer, FedBoard, StepRefusal, save as checkpoint};
 use filter_rule::Plan;
+use printing::{Gathered, Out, OutFailed, put_all};
 use source_feed::Feed;
 use std::alloc::{AllocError, Global};
 use std::mem::forget;
 use std::sync::Arc;
 use step_script::ScriptStep;
-use vdiff_core::{Gathered, Out, OutFailed, put_all};
 
 /// The number of a refusal for want of memory.
 const MEMORY: u8 = 72;

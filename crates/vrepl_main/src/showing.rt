@@ -4,15 +4,15 @@ ghost use Rattle.std.specs.Prelude.{◌≡◌, Some};
 ghost use Rattle.vrepl_main.specs.HexText.{hex_bytes};
 ghost use Rattle.feed_text.specs.Shown.{shown};
 ghost use Rattle.vrepl_main.specs.Show.{shown_feed, shown_bytes, shown_source};
-ghost use Rattle.vdiff_core.specs.Printing.{Prints};
+ghost use Rattle.printing.specs.Printing.{Prints};
 ghost use Rattle.vrepl_main.specs.Command.{PrintsText, TextEnds};
 
 use crate::hex_text::bytes_of_hex;
 use crate::refusal::{CommandRefusal, refuse};
 use crate::shown::print_groups;
+use printing::{Gathered, Out, OutFailed};
 use source_feed::{Groups, read_groups};
 use std::alloc::Global;
-use vdiff_core::{Gathered, Out, OutFailed};
 use vrepl_choices::FeedForm;
 
 /// Prints all the groups.

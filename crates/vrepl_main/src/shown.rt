@@ -7,9 +7,9 @@ ghost use Rattle.feed_text.specs.Shown.{shown_row_line, shown_row_lines, change_
 
 use crate::output::{print_cells, put_all, put_number, put_str};
 use gtid_set::{GtidSet, Interval, uuid_text};
+use printing::{Gathered, Out, OutFailed};
 use row_view::{Columns, RowBytes};
 use source_feed::{Change, Group, GroupChanges, Groups};
-use vdiff_core::{Gathered, Out, OutFailed};
 
 /// Prints groups in small pieces: for each group the line `group NUMBER POSITION`, then for each
 /// change the row before behind `- TABLE` and the row after behind `+ TABLE`, each cell behind a tab.

@@ -8,8 +8,8 @@ ghost use Rattle.vrepl_main.specs.Adding.{AddsText, at};
 use crate::output::{put_all, put_between, put_named, put_number, put_str};
 use crate::shown::print_position;
 use gtid_set::GtidSet;
+use printing::{Gathered, Out, OutFailed};
 use stream_core::{Cursor, Phase};
-use vdiff_core::{Gathered, Out, OutFailed};
 
 /// Adds the line of where a stream stands: its phase and its numbers, the group of its open snapshot or
 /// `none`, and the position of its applied group, which may be left out where it is empty; an empty one

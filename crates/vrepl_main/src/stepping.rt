@@ -19,12 +19,12 @@ use crate::scripted::{Scripted, open_scripted};
 use apply_core::FedBoard;
 use filter_rule::Plan;
 use pace::{Meter, Unmetered};
+use printing::{Gathered, Out, OutFailed};
 use source_feed::Feed;
 use std::alloc::{AllocError, Global};
 use std::mem::forget;
 use std::sync::Arc;
 use step_script::ScriptStep;
-use vdiff_core::{Gathered, Out, OutFailed};
 
 /// Takes the steps of a script on a board over a workflow and its feeds, one in the order of the streams
 /// each, and prints their replies on `out` in pieces of up to 4 KiB; or prints the line of a refusal on

@@ -1,7 +1,7 @@
 -- A command's refusal in the form that is asked for, and how a command that prints a text then ends (this profile).
 use Rattle.std.specs.Prelude.{◌≡◌, ℕ, List, Option, None, Result}
 use Rattle.refusal_json.specs.Refusal.{refusal_json, refusal_plain}
-use Rattle.vdiff_core.specs.Printing.{Written}
+use Rattle.printing.specs.Printing.{Written}
 use Rattle.vrepl_choices.specs.declared.report_form.ReportForm.{ReportForm}
 use Rattle.vrepl_choices.specs.declared.report_form.ReportForm.TheVariants.{Lines, Json}
 use Rattle.vrepl_main.specs.Command.{Ends, IsGivenText, PrintsWhole, RefusesCommand}

@@ -1,14 +1,14 @@
 //! The line of a command's refusal.
 
 ghost use Rattle.std.specs.Prelude.{◌≡◌, option_map};
-ghost use Rattle.vdiff_core.specs.Printing.{Prints};
+ghost use Rattle.printing.specs.Printing.{Prints};
 ghost use Rattle.vrepl_choices.specs.declared.report_form.ReportForm.TheVariants.{Json};
 ghost use Rattle.vrepl_main.specs.Printing.{PrintsOrBreaks};
 ghost use Rattle.vrepl_refusal.specs.Form.{line_as};
 
 use crate::details::details_of;
+use printing::{Out, OutFailed};
 use refusal_json::print_refusal;
-use vdiff_core::{Out, OutFailed};
 use vrepl_choices::ReportForm;
 use vrepl_main::{CommandRefusal, refuse};
 

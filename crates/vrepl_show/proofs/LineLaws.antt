@@ -5,7 +5,7 @@ use Rattle.gtid_set.specs.Printed.{printed_position}
 use Rattle.row_view.specs.FieldValue.{FieldValue}
 use Rattle.serde_json.specs.Data.{Data, array, number, string, object, no_members, member, unsigned}
 use Rattle.serde_json.specs.View.{items_of}
-use Rattle.outcome.specs.Outcome as outcome
+use Rattle.list_laws.specs.Outcome as outcome
 use Rattle.source_feed.specs.FaultNumber as feed
 use Rattle.source_feed.specs.GroupValue.{TableChangeValue, GroupValue}
 use Rattle.source_feed.specs.declared.fault.FeedFault.{FeedFault}

@@ -1,7 +1,7 @@
 //! The groups of a feed, printed as lines of JSON.
 
 ghost use Rattle.std.specs.Prelude.{◌≡◌, Some};
-ghost use Rattle.vdiff_core.specs.Printing.{Prints};
+ghost use Rattle.printing.specs.Printing.{Prints};
 ghost use Rattle.show_json.specs.Columns.{columns_of};
 ghost use Rattle.show_json.specs.Text.{json_text_of};
 ghost use Rattle.vrepl_choices.specs.declared.report_form.ReportForm.TheVariants.{Json};
@@ -11,10 +11,10 @@ ghost use Rattle.vrepl_main.specs.Show.{shown_source};
 ghost use Rattle.vrepl_refusal.specs.Form.{TextEndsAs};
 ghost use Rattle.vrepl_show.specs.ShowJson.{json_bytes, json_feed};
 
+use printing::Out;
 use show_json::{FeedColumns, print_groups_json};
 use source_feed::read_groups;
 use std::alloc::Global;
-use vdiff_core::Out;
 use vrepl_choices::FeedForm;
 use vrepl_main::{CommandRefusal, bytes_of_hex};
 use vrepl_refusal::refuse_json;

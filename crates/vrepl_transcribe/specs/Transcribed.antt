@@ -1,7 +1,7 @@
 -- The feed that `transcribe` makes of logs, or why there is none; and how the command ends (this profile).
 use Rattle.std.specs.Prelude.{◌≡◌, ◌⊎◌, ℕ, List, [], ◌∷◌, ◌++◌, codes, decimal, map, option_map, Option, None, Some, IfSome, Result, Ok, Err, slice_get}
 use Rattle.std.specs.Option.{option_map_or}
-use Rattle.outcome.specs.Outcome.{◌>>=◌}
+use Rattle.list_laws.specs.Outcome.{◌>>=◌}
 use Rattle.filter_rule.specs.Faults as plans
 use Rattle.filter_rule.specs.PlanTable.{TableValue, name_of_table}
 use Rattle.filter_rule.specs.PlanValue.{PlanValue}
@@ -14,7 +14,7 @@ use Rattle.log_transcribe.specs.Feed.{IsFeedOfLogs}
 use Rattle.log_transcribe.specs.Transcript.{feed_of_logs}
 use Rattle.log_transcribe.specs.declared.fault.LogsFault.{LogsFault}
 use Rattle.log_transcribe.specs.declared.fault.LogsFault.TheVariants.{Tell}
-use Rattle.vdiff_core.specs.Printing.{Written, IsWritten, BreaksOff}
+use Rattle.printing.specs.Printing.{Written, IsWritten, BreaksOff}
 use Rattle.vrepl_transcribe.specs.Source.{plan_of_shard, first_unplain, source_in}
 use Rattle.vrepl_transcribe.specs.declared.inputs.TranscribeInputs.{TranscribeInputs}
 use Rattle.vrepl_transcribe.specs.declared.transcribing.Untranscribed.{Untranscribed}

@@ -7,7 +7,7 @@ ghost use Rattle.std.specs.Result.{result_map_both};
 ghost use Rattle.log_laws.specs.Source.{IsSource};
 ghost use Rattle.log_transcribe.specs.Feed.{IsFeedOfLogs};
 ghost use Rattle.log_transcribe.specs.Transcript.{source_value};
-ghost use Rattle.vdiff_core.specs.Printing.{IsWritten, BreaksOff};
+ghost use Rattle.printing.specs.Printing.{IsWritten, BreaksOff};
 ghost use Rattle.vrepl_transcribe.specs.Source.{plan_of_shard, source_in};
 ghost use Rattle.vrepl_transcribe.specs.Transcribed.{Answers, asked_of, EndsSo, IsTranscribed};
 ghost use Rattle.vrepl_transcribe.specs.Private.Steps.{AnswersLogs, AnswersNames, AnswersUnder, PrintsAll, SaysFault};
@@ -19,9 +19,9 @@ use crate::place::place_of;
 use crate::source::{feed_tables_of, first_unplain, place_of_shard};
 use filter_rule::{Plan, PlanFault, Table};
 use log_transcribe::{FeedSource, LogsError, LogsFault, transcribe as feed_of_logs};
+use printing::{Out, put_all};
 use std::alloc::{AllocError, Global};
 use std::sync::Arc;
-use vdiff_core::{Out, put_all};
 
 /// Why there is no feed.
 #[derive(Drop)]

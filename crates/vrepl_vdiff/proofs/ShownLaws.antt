@@ -1,8 +1,8 @@
 -- What is shown of two sets of rows.
 use Rattle.std.proofs.Common.{◌≡◌, sym, subst, List, ℕ, Err}
 use Rattle.std.specs.Prelude.{unwrap_or}
-use Rattle.vdiff_core.specs.Printing.{Written, BreaksOff}
-use Rattle.vdiff_tables.specs.Reports.{NamedReport}
+use Rattle.printing.specs.Printing.{Written, BreaksOff}
+use Rattle.vdiff.specs.Reports.{NamedReport}
 use Rattle.vrepl_choices.specs.declared.report_form.ReportForm.{ReportForm}
 use Rattle.vrepl_choices.specs.declared.report_form.ReportForm.TheVariants.{Lines, Json}
 use Rattle.vrepl_main.specs.Command.{IsUnwritten}

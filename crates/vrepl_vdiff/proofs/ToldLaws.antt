@@ -5,11 +5,11 @@ use Rattle.filter_rule.specs.PlanValue.{PlanValue}
 use Rattle.filter_rule.specs.Reading.{plans_of}
 use Rattle.filter_rule.specs.declared.fault.PlanFault.{PlanFault}
 use Rattle.filter_rule.specs.declared.fault.PlanFault.TheVariants as errors
-use Rattle.vdiff_core.specs.DumpReading.{IsFirstBad, IsDumpReading}
-use Rattle.vdiff_core.specs.Printing.{Written}
-use Rattle.vdiff_core.specs.DumpRowsValue.{DumpRowsValue}
-use Rattle.vdiff_core.specs.declared.reading.DumpFault.{DumpFault}
-use Rattle.vdiff_core.specs.declared.reading.DumpFault.TheVariants as faults
+use Rattle.dump.specs.DumpReading.{IsFirstBad, IsDumpReading}
+use Rattle.printing.specs.Printing.{Written}
+use Rattle.dump.specs.DumpRowsValue.{DumpRowsValue}
+use Rattle.dump.specs.declared.reading.DumpFault.{DumpFault}
+use Rattle.dump.specs.declared.reading.DumpFault.TheVariants as faults
 use Rattle.vrepl_choices.specs.declared.report_form.ReportForm.{ReportForm}
 use Rattle.vrepl_choices.specs.declared.report_form.ReportForm.TheVariants.{Lines, Json}
 use Rattle.vrepl_main.specs.declared.refusal.CommandRefusal.{CommandRefusal}

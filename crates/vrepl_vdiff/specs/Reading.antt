@@ -1,7 +1,7 @@
 -- What is told of a dump that isn't read.
 use Rattle.std.specs.Prelude.{◌≡◌, ℕ, List}
 use Rattle.filter_rule.specs.PlanValue.{PlanValue}
-use Rattle.vdiff_core.specs.DumpReading.{IsFirstBad}
+use Rattle.dump.specs.DumpReading.{IsFirstBad}
 use Rattle.vrepl_choices.specs.declared.report_form.ReportForm.{ReportForm}
 use Rattle.vrepl_main.specs.declared.refusal.CommandRefusal.{CommandRefusal}
 use Rattle.vrepl_main.specs.declared.refusal.CommandRefusal.TheVariants.{Memory, BadDump}

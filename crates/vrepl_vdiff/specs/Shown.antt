@@ -1,16 +1,16 @@
 -- What `vdiff` shows of two dumps by its options (this profile, after Vitess's VDiff).
 use Rattle.std.specs.Prelude.{◌≡◌, ◌≢◌, ℕ, Bool, true, false, List, [], ◌++◌, unwrap_or, Result, Ok, Err}
-use Rattle.vdiff_core.specs.Printing.{Written, IsWritten, BreaksOff}
-use Rattle.vdiff_core.specs.Report.{report_of}
-use Rattle.vdiff_core.specs.DumpRowsValue.{DumpRowsValue}
-use Rattle.vdiff_json.specs.Json.{comparison_data, json_line}
+use Rattle.printing.specs.Printing.{Written, IsWritten, BreaksOff}
+use Rattle.vdiff.specs.Report.{report_of}
+use Rattle.dump.specs.DumpRowsValue.{DumpRowsValue}
+use Rattle.vdiff.specs.Json.{comparison_data, json_line}
 use Rattle.vdiff_patch.specs.Patch.{patch_of}
 use Rattle.vdiff_patch.specs.Repair.{IsRepair}
 use Rattle.vdiff_sql.specs.Statements.{sql_text}
 use Rattle.vdiff_text.specs.ShownDifferences.{shown_differences}
-use Rattle.vdiff_tables.specs.Differences.{AreFirstDifferences, Difference}
-use Rattle.vdiff_tables.specs.Reports.{NamedReport, reports_from}
-use Rattle.vdiff_tables.specs.Texts.{differences_text, tables_text}
+use Rattle.vdiff.specs.Differences.{AreFirstDifferences, Difference}
+use Rattle.vdiff.specs.Reports.{NamedReport, reports_from}
+use Rattle.vdiff.specs.Texts.{differences_text, tables_text}
 use Rattle.vrepl_choices.specs.declared.report_form.ReportForm.{ReportForm}
 use Rattle.vrepl_choices.specs.declared.report_form.ReportForm.TheVariants.{Lines, Json}
 use Rattle.vrepl_main.specs.Command.{IsUnwritten}

@@ -2,9 +2,9 @@
 use Rattle.std.specs.Prelude.{◌≡◌, ◌⊎◌, ℕ, List, ◌∷◌, ◌++◌, Option, None, Some, Result, Ok, Err, codes}
 use Rattle.filter_rule.specs.PlanValue.{PlanValue}
 use Rattle.filter_rule.specs.Reading.{plans_of}
-use Rattle.vdiff_core.specs.DumpReading.{IsDumpReading}
-use Rattle.vdiff_core.specs.Printing.{Written}
-use Rattle.vdiff_core.specs.DumpRowsValue.{DumpRowsValue}
+use Rattle.dump.specs.DumpReading.{IsDumpReading}
+use Rattle.printing.specs.Printing.{Written}
+use Rattle.dump.specs.DumpRowsValue.{DumpRowsValue}
 use Rattle.vrepl_choices.specs.declared.report_form.ReportForm.{ReportForm}
 use Rattle.vrepl_choices.specs.declared.report_form.ReportForm.TheVariants.{Json}
 use Rattle.vrepl_main.specs.Command.{RefusesCommand, Ends}

@@ -2,7 +2,7 @@
 use Rattle.std.specs.Prelude.{◌≡◌, ◌⊎◌, ℕ, List, Option, None, option_map, string_bytes}
 use Rattle.std.specs.declared.alloc.Global.{Global}
 use Rattle.std.specs.Prelude.{String}
-use Rattle.vdiff_core.specs.declared.reading.DumpFault.{DumpFault}
+use Rattle.dump.specs.declared.reading.DumpFault.{DumpFault}
 use Rattle.vrepl_choices.specs.declared.report_form.ReportForm.{ReportForm}
 use Rattle.vrepl_main.specs.RefusalOf.{refusal_of_dump}
 use Rattle.vrepl_main.specs.declared.refusal.CommandRefusal.TheVariants.{Memory}

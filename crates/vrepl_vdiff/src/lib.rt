@@ -7,8 +7,8 @@ mod repairing;
 mod showing;
 mod text;
 mod told;
-mod vdiff;
+mod told_vdiff;
 
 pub use inputs::{Dump, VdiffInputs};
 pub use options::{Detail, Options};
-pub use vdiff::vdiff_with;
+pub use told_vdiff::vdiff_with;

@@ -1,12 +1,13 @@
 //! The differences of two sets of rows as a person reads them, and the statements that repair them.
 
 ghost use Rattle.std.specs.List.{AllByRecursion};
-ghost use Rattle.vdiff_core.specs.DumpReading.{FitsPlan};
+ghost use Rattle.dump.specs.DumpReading.{FitsPlan};
 ghost use Rattle.vrepl_vdiff.specs.Shown.{IsDifferencesText, IsRepairText, PrintsSome};
 
+use dump::DumpRows;
 use filter_rule::Plan;
+use printing::{Out, put_all};
 use std::alloc::Global;
-use vdiff_core::{DumpRows, Out, put_all};
 use vdiff_sql::repair_text;
 use vdiff_text::differences_text;
 use vrepl_main::CommandRefusal;

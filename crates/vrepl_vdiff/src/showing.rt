@@ -2,18 +2,18 @@
 
 ghost use Rattle.std.specs.Prelude.{◌≡◌, IfOk, map};
 ghost use Rattle.std.specs.List.{AllByRecursion};
-ghost use Rattle.vdiff_core.specs.DumpReading.{FitsPlan};
-ghost use Rattle.vdiff_tables.specs.NamedReports.{named_report};
+ghost use Rattle.dump.specs.DumpReading.{FitsPlan};
+ghost use Rattle.vdiff.specs.NamedReports.{named_report};
 ghost use Rattle.vrepl_vdiff.specs.Shown.{IsVerdict, PrintsShown, PrintsSome, by_form, reports_asked};
 
 use crate::options::{Detail, Options};
 use crate::repairing::{print_differences, print_repair};
 use crate::text::print_text;
+use dump::DumpRows;
 use filter_rule::Plan;
+use printing::{Out, put_all};
 use std::alloc::{AllocError, Global};
-use vdiff_core::{DumpRows, Out, first_difference, put_all};
-use vdiff_json::comparison_line;
-use vdiff_tables::{TableReport, table_reports};
+use vdiff::{TableReport, comparison_line, first_difference, table_reports};
 use vrepl_choices::ReportForm;
 use vrepl_main::{CommandRefusal, Verdict};
 

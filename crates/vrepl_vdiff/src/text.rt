@@ -2,16 +2,18 @@
 
 ghost use Rattle.std.specs.Prelude.{List, ℕ, map};
 ghost use Rattle.std.specs.Option.{option_map};
-ghost use Rattle.vdiff_core.specs.Printing.{Adds, Prints};
-ghost use Rattle.vdiff_tables.specs.NamedReports.{named_report};
+ghost use Rattle.printing.specs.Printing.{Adds, Prints};
+ghost use Rattle.vdiff.specs.NamedReports.{named_report};
 ghost use Rattle.vrepl_main.specs.Comparison.{first_text};
 ghost use Rattle.vrepl_vdiff.specs.Shown.{IsTextOf};
 
+use dump::DumpRows;
 use filter_rule::{Plan, Table};
 use pk_copy::Key;
-use vdiff_core::{DumpRows, Gathered, Out, OutFailed, compare, first_difference};
-use vdiff_tables::{
-    TableReport, add_counts, add_differences, add_key_line, add_tables, first_differences_are_there,
+use printing::{Gathered, Out, OutFailed};
+use vdiff::{
+    TableReport, add_counts, add_differences, add_key_line, add_tables, compare, first_difference,
+    first_differences_are_there,
 };
 
 /// Prints the lines of some tables, the five counts and the first key at which the two differ, and the first `count`

@@ -6,9 +6,10 @@ ghost use Rattle.vrepl_main.specs.RefusalOf.{refusal_of_workflow};
 ghost use Rattle.vrepl_refusal.specs.Form.{line_as};
 ghost use Rattle.vrepl_vdiff.specs.ToldValue.{IsToldOf, place_value};
 
+use dump::DumpFault;
 use filter_rule::PlanFault;
+use printing::Out;
 use std::alloc::{AllocError, Global};
-use vdiff_core::{DumpFault, Out};
 use vrepl_choices::ReportForm;
 use vrepl_main::CommandRefusal;
 use vrepl_refusal::refuse_as;

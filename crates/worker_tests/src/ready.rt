@@ -14,7 +14,7 @@ use std::alloc::{AllocError, Global};
 use std::sync::{Arc, Wait};
 use std::test::*;
 use stream_worker::{Receipt, Seat, Shared, work};
-use vdiff_core::first_difference;
+use vdiff::first_difference;
 
 /// Groups of a feed that stand ready, by their numbers. Those that are given are kept beside.
 #[derive(Drop)]

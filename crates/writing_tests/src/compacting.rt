@@ -3,9 +3,9 @@
 use compaction::{CompactFault, CompactedFeed, Compaction, UnknownTables, compact};
 use filter_rule::Plan;
 use pace::Unmetered;
+use printing::Writer;
 use source_feed::{Feed, FeedFault};
 use std::alloc::Global;
-use vdiff_core::Writer;
 
 /// The table `t` of the keyspace `ks`, whose rows of the lower half of ids pass.
 const WORKFLOW: &[u8] =

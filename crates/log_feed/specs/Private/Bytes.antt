@@ -1,6 +1,6 @@
 -- The bytes of a row event's changes, one behind another.
 use Rattle.std.specs.Prelude.{◌≡◌, ◌<◌, Bool, true, false, ℕ, ◌^◌, nat_le, if◌then◌else◌, List, [], ◌∷◌, ◌++◌, length, Option, None, Some, Result, Ok, Err}
-use Rattle.outcome.specs.Outcome.{◌>>=◌, Refuses}
+use Rattle.list_laws.specs.Outcome.{◌>>=◌, Refuses}
 use Rattle.item_readers.specs.Reading.{Reading}
 use Rattle.proto_wire.specs.Writing.{written_field, written_fields, number_field, text_field, message_field}
 use Rattle.vevent.specs.EventValue.{EventValue}

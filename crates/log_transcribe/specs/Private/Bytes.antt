@@ -1,6 +1,6 @@
 -- Messages as they are put behind bytes that are written.
 use Rattle.std.specs.Prelude.{◌≡◌, ◌<◌, ℕ, Bool, true, false, List, [], ◌∷◌, ◌++◌, length, Option, None, Some, Result, Ok, Err}
-use Rattle.outcome.specs.Outcome.{◌>>=◌, Refuses}
+use Rattle.list_laws.specs.Outcome.{◌>>=◌, Refuses}
 use Rattle.item_readers.specs.Reading.{Reading}
 use Rattle.gtid_set.specs.declared.interval.Interval.{Interval}
 use Rattle.vevent.specs.EventValue.{EventValue, Begin, Commit}

@@ -1,6 +1,6 @@
 -- The groups of a feed, event after event: what stands before each place, or the first fault on the way.
 use Rattle.std.specs.Prelude.{List, [], ◌∷◌, Option, Result, Ok, Err, if◌then◌else◌}
-use Rattle.outcome.specs.Outcome.{◌>>=◌, unless}
+use Rattle.list_laws.specs.Outcome.{◌>>=◌, unless}
 use Rattle.vevent.specs.EventValue.{EventValue}
 use Rattle.source_feed.specs.declared.fault.FeedFault.{FeedFault}
 use Rattle.source_feed.specs.declared.fault.FeedFault.TheVariants.{OpenAtEnd}

@@ -8,7 +8,7 @@ use Rattle.source_feed.specs.declared.transaction.Transaction.{Transaction}
 use Rattle.source_feed.specs.declared.group_reader.GroupReader.{GroupReader}
 use Rattle.source_feed.specs.Private.BlockEnd.{last_position}
 use Rattle.source_feed.specs.Private.Start.{start_position, reached_in}
-use Rattle.outcome.specs.Outcome.{Refuses, IsFault}
+use Rattle.list_laws.specs.Outcome.{Refuses, IsFault}
 use Rattle.source_feed.specs.FaultNumber.{meant_of}
 use Rattle.source_feed.specs.GroupValue.{Position, TableChangeValue, GroupValue}
 use Rattle.source_feed.specs.SourceValue.{SourceValue}

@@ -1,6 +1,6 @@
 -- Touches that are put behind earlier ones.
 use Rattle.std.specs.Prelude.{List, ◌++◌, Result, Ok}
-use Rattle.outcome.specs.Outcome.{◌>>=◌}
+use Rattle.list_laws.specs.Outcome.{◌>>=◌}
 use Rattle.source_feed.specs.declared.fault.FeedFault.{FeedFault}
 use Rattle.source_feed.specs.Touches.{TouchValue}
 

@@ -2,11 +2,11 @@
 use Rattle.std.specs.Prelude.{◌≡◌, ◌≢◌, ◌∷◌}
 use Rattle.pk_copy.specs.KeyOrder.{key_cmp}
 use Rattle.target_tables.specs.Rising.{IsRising}
-use Rattle.vdiff_core.specs.DumpRowsValue.{DumpRowsValue}
+use Rattle.dump.specs.DumpRowsValue.{DumpRowsValue}
 use Rattle.vdiff_patch.specs.AllDifferences.{differences_of}
-use Rattle.vdiff_tables.specs.Differences.{Difference}
-use Rattle.vdiff_tables.specs.Found.{difference_of}
-use Rattle.vdiff_tables.specs.declared.walk.Found.{Found}
+use Rattle.vdiff.specs.Differences.{Difference}
+use Rattle.vdiff.specs.Found.{difference_of}
+use Rattle.vdiff.specs.declared.walk.Found.{Found}
 
 -- this one and those of what is left behind it are all
 pub record IsFirst (source target : DumpRowsValue) (first : Difference) (source_left target_left : DumpRowsValue) : Type 0 where

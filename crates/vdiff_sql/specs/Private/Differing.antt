@@ -1,7 +1,7 @@
 -- One place in two rows.
 use Rattle.std.specs.Prelude.{ℕ, List, [], ◌∷◌, Option, if◌then◌else◌}
 use Rattle.filter_rule.specs.PlanTable.{TableValue}
-use Rattle.vdiff_core.specs.Report.{column_eq}
+use Rattle.vdiff.specs.Report.{column_eq}
 use Rattle.vdiff_sql.specs.Statements.{assignment}
 
 -- the value for its column where another one stands there

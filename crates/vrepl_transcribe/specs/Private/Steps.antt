@@ -5,7 +5,7 @@ use Rattle.filter_rule.specs.PlanValue.{PlanValue}
 use Rattle.log_laws.specs.Source.{SourceTables}
 use Rattle.log_transcribe.specs.Transcript.{feed_of_logs}
 use Rattle.log_transcribe.specs.declared.fault.LogsFault.{LogsFault}
-use Rattle.vdiff_core.specs.Printing.{Written, IsWritten, BreaksOff}
+use Rattle.printing.specs.Printing.{Written, IsWritten, BreaksOff}
 use Rattle.vrepl_transcribe.specs.Source.{first_unplain}
 use Rattle.vrepl_transcribe.specs.Transcribed.{AskedValue, WhyNot, SaysWhy, feed_under, line_of, logs_line}
 use Rattle.vrepl_transcribe.specs.declared.transcribing.Untranscribed.{Untranscribed}

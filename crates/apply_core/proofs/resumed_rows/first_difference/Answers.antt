@@ -5,7 +5,7 @@ use Rattle.std.proofs.lemmas.Option.{slice_get_read}
 use Rattle.source_feed.specs.Image.{lent_row}
 use Rattle.board_laws.proofs.Lookups.{all-at}
 use Rattle.apply_core.specs.Private.Changes.{IsOfTable, found_row}
-use Rattle.vdiff_core.specs.Report.{IsFirstDifference}
+use Rattle.vdiff.specs.Report.{IsFirstDifference}
 use Rattle.apply_core.proofs.KeyedLaws.{differs_there, goes_on_keyed}
 use Rattle.apply_core.proofs.ResumeLaws.{LentRow, source_longer, target_longer}
 use Rattle.apply_core.proofs.StreamLaws.{item_at}

@@ -1,6 +1,6 @@
 use Rattle.std.proofs.Common.{drop, map}
 use Rattle.apply_core.specs.Private.Changes.{found_row}
-use Rattle.vdiff_core.proofs.ReportLaws.{IsSameSoFar}
+use Rattle.vdiff.proofs.ReportLaws.{IsSameSoFar}
 use Rattle.apply_core.proofs.resumed_rows.first_difference.Given as goal
 
 -- the rows so far are the same

@@ -3,7 +3,7 @@ use Rattle.pk_copy.specs.KeyOrder.{key_cmp}
 use Rattle.pk_copy.specs.KeyValue.{KeyValue}
 use Rattle.target_tables.specs.Contents.{entry}
 use Rattle.target_tables.specs.Rising.{AreBelow}
-use Rattle.vdiff_core.specs.DumpRowsValue.{DumpRowsValue}
+use Rattle.dump.specs.DumpRowsValue.{DumpRowsValue}
 use Rattle.apply_core.specs.Shown.{rows_of_stream}
 use Rattle.apply_core.proofs.ShowLaws.{Lent, walk_begins, walk_ends, walk_on, behind_seen, behind_own, more-own, more-other}
 use Rattle.apply_core.proofs.showing.copies_of_own.Goals as goal

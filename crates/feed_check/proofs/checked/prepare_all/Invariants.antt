@@ -1,6 +1,6 @@
 use Rattle.std.proofs.Common.{◌≡◌, drop, map}
 use Rattle.std.specs.Arc.{arc_value}
-use Rattle.outcome.specs.Outcome.{each}
+use Rattle.list_laws.specs.Outcome.{each}
 use Rattle.source_feed.specs.Touches.{prepared}
 use Rattle.feed_check.specs.Checked.{history_of}
 use Rattle.feed_check.proofs.ListLaws.{in_front}

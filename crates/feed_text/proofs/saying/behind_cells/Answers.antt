@@ -1,7 +1,7 @@
 use Rattle.std.proofs.Common.{◌≡◌, ◌++◌, ◌∷◌, List, ℕ, Option, ap, ◌∙◌}
 use Rattle.std.proofs.lemmas.List.Concat.{flat_map-cons}
 use Rattle.row_view.specs.ColumnValue.{column_value}
-use Rattle.vdiff_core.specs.Cells.{cell, cells}
+use Rattle.dump.specs.Cells.{cell, cells}
 use Rattle.feed_text.proofs.SaidLaws.{begins, goes, ends}
 use Rattle.feed_text.proofs.saying.behind_cells.Goals as goal
 

@@ -1,4 +1,4 @@
-use Rattle.vdiff_core.specs.Cells.{cells}
+use Rattle.dump.specs.Cells.{cells}
 use Rattle.feed_text.specs.Private.SaidUpTo.{IsSaidUpTo}
 use Rattle.feed_text.proofs.saying.behind_cells.Given as goal
 

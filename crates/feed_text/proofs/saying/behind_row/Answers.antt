@@ -1,5 +1,5 @@
 use Rattle.std.proofs.Common.{[], ◌∷◌, ◌++◌}
-use Rattle.vdiff_core.specs.Cells.{cells}
+use Rattle.dump.specs.Cells.{cells}
 use Rattle.feed_text.proofs.SaidLaws.{piece_behind}
 use Rattle.feed_text.proofs.saying.behind_row.Goals as goal
 

@@ -1,5 +1,5 @@
 use Rattle.std.proofs.Common.{◌≡◌, length}
-use Rattle.outcome.specs.Outcome.{each}
+use Rattle.list_laws.specs.Outcome.{each}
 use Rattle.filter_rule.specs.Resolving.{place_in}
 use Rattle.filter_rule.proofs.EachLaws.{rest_of_each}
 use Rattle.filter_rule.proofs.decide.listed_places.Given as goal

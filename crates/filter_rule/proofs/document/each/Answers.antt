@@ -1,7 +1,7 @@
 use Rattle.std.proofs.Common.{map}
 use Rattle.std.proofs.lemmas.Result.{err_from_is_err_and}
 use Rattle.serde_json.specs.View.{view}
-use Rattle.outcome.specs.Outcome.{each}
+use Rattle.list_laws.specs.Outcome.{each}
 use Rattle.filter_rule.proofs.EachLaws.{turn, turn_fault, fails_along}
 use Rattle.filter_rule.proofs.document.each.Goals as goal
 

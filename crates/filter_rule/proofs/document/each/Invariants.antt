@@ -1,6 +1,6 @@
 use Rattle.std.proofs.Common.{◌≡◌, drop, map}
 use Rattle.serde_json.specs.View.{view}
-use Rattle.outcome.specs.Outcome.{each}
+use Rattle.list_laws.specs.Outcome.{each}
 use Rattle.filter_rule.proofs.EachLaws.{rest_of_each}
 use Rattle.filter_rule.proofs.document.each.Given as goal
 

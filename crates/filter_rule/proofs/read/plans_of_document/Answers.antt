@@ -1,6 +1,6 @@
 use Rattle.filter_rule.proofs.PlanLaws.{are_narrow, plans_shape}
 use Rattle.std.proofs.Common.{◌≡◌, Ok, ap, sym, subst, ◌∙◌, string_bytes}
-use Rattle.outcome.specs.Outcome.{each}
+use Rattle.list_laws.specs.Outcome.{each}
 use Rattle.filter_rule.specs.Document.{DocumentSaid}
 use Rattle.filter_rule.specs.Private.Accepted.{ArePlansOver}
 use Rattle.filter_rule.specs.Reading.{decided_from, closed_from}

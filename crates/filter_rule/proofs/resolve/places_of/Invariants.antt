@@ -1,5 +1,5 @@
 use Rattle.std.proofs.Common.{◌≡◌, drop}
-use Rattle.outcome.specs.Outcome.{each}
+use Rattle.list_laws.specs.Outcome.{each}
 use Rattle.filter_rule.specs.Resolving.{place_in}
 use Rattle.filter_rule.proofs.EachLaws.{rest_of_each}
 use Rattle.filter_rule.proofs.resolve.places_of.Given as goal

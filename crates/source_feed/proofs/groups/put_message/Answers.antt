@@ -1,7 +1,7 @@
 use Rattle.std.proofs.Common.{◌≡◌, List, ◌∷◌, Option, None, Some, Result, Err, IfSome, ap, ◌∙◌}
 use Rattle.std.proofs.lemmas.Result.{err_from_is_err_and}
 use Rattle.proto_wire.specs.Reading.{Reading}
-use Rattle.outcome.specs.Outcome.{◌>>=◌, unless, IsFault, Refuses}
+use Rattle.list_laws.specs.Outcome.{◌>>=◌, unless, IsFault, Refuses}
 use Rattle.vevent.specs.EventValue.{EventValue}
 use Rattle.vevent.specs.declared.fault.EventFault.{EventFault}
 use Rattle.source_feed.specs.declared.fault.FeedFault.{FeedFault}

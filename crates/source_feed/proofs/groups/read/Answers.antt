@@ -8,7 +8,7 @@ use Rattle.source_feed.proofs.EventByEventLaws.{groups-run, gives_along}
 use Rattle.source_feed.proofs.Messages.{refuses_along}
 use Rattle.source_feed.proofs.DefinedLaws.{in_order}
 use Rattle.source_feed.proofs.MemoryLaws.{not_memory_at_end}
-use Rattle.outcome.specs.Outcome.{GivesUnless}
+use Rattle.list_laws.specs.Outcome.{GivesUnless}
 use Rattle.source_feed.specs.declared.fault.FeedFault.{FeedFault}
 use Rattle.source_feed.specs.FaultNumber.{meant_of}
 use Rattle.source_feed.specs.GroupValue.{GroupValue}

@@ -1,5 +1,5 @@
 use Rattle.std.proofs.Common.{◌∙◌, sym}
-use Rattle.vdiff_core.proofs.ReportLaws.{all_above}
+use Rattle.vdiff.proofs.ReportLaws.{all_above}
 use Rattle.vdiff_patch.proofs.WalkLaws.{above_of_greater, first_through}
 use Rattle.vdiff_patch.proofs.first.first_of.Goals as goal
 

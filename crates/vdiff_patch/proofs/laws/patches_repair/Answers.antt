@@ -1,7 +1,7 @@
 use Rattle.std.proofs.Common.{◌≡◌, ℕ, length}
 use Rattle.filter_rule.specs.PlanValue.{kept_columns_of}
-use Rattle.vdiff_core.specs.DumpReading.{FitsPlan}
-use Rattle.vdiff_core.specs.DumpRowsValue.{RowValue}
+use Rattle.dump.specs.DumpReading.{FitsPlan}
+use Rattle.dump.specs.DumpRowsValue.{RowValue}
 use Rattle.pk_copy.specs.KeyValue.{KeyValue}
 use Rattle.list_laws.proofs.Fronts.{each}
 use Rattle.vdiff_patch.proofs.RepairLaws.{patch_repairs}

@@ -1,7 +1,7 @@
 use Rattle.std.proofs.Common.{◌∙◌, ◌++◌, ap, List}
 use Rattle.filter_rule.specs.PlanTable.{TableValue}
 use Rattle.vdiff_patch.specs.Patch.{change_at}
-use Rattle.vdiff_tables.specs.Found.{difference_of}
+use Rattle.vdiff.specs.Found.{difference_of}
 use Rattle.vdiff_sql.specs.Statements.{statement_at}
 use Rattle.vdiff_sql.proofs.StatementLaws.{pushed_more}
 use Rattle.vdiff_sql.proofs.repair.repair_text.Goals as goal

@@ -1,5 +1,5 @@
 use Rattle.std.proofs.Common.{◌≡◌, ◌≤◌, ◌⊎◌, inl, ℕ, Bool, true, false, subst, sym}
-use Rattle.vdiff_core.specs.Printing.{Written}
+use Rattle.printing.specs.Printing.{Written}
 use Rattle.vrepl_main.proofs.CommandLaws.{ends_within}
 use Rattle.vrepl_vdiff.specs.declared.inputs.VdiffInputs.{VdiffInputs}
 use Rattle.vrepl.specs.Answered.{AnswerEnds}

@@ -1,5 +1,5 @@
 use Rattle.std.proofs.Common.{inl, inr, arith}
-use Rattle.vdiff_tables.proofs.DifferenceLaws.{found_all}
+use Rattle.vdiff.proofs.DifferenceLaws.{found_all}
 use Rattle.vrepl_c.proofs.DifferenceLaws.{adding_more, adding_none}
 use Rattle.vrepl_c.proofs.differences.push_differences.Goals as goal
 

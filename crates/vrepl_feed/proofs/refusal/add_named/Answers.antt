@@ -1,6 +1,6 @@
 use Rattle.std.specs.Prelude.{decimal}
 use Rattle.std.proofs.lemmas.Result.{err_from_is_err_and}
-use Rattle.vdiff_core.proofs.PrintLaws.{adding_breaks, then_adds}
+use Rattle.printing.proofs.PrintLaws.{adding_breaks, then_adds}
 use Rattle.vrepl_feed.proofs.refusal.add_named.Goals as goal
 
 pub returns-in_err-put : goal.returns-in_err-put

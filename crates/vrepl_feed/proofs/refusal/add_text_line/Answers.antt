@@ -1,7 +1,7 @@
 use Rattle.std.proofs.Common.{[], ◌∷◌, ◌++◌}
 use Rattle.std.specs.Prelude.{codes, decimal}
 use Rattle.std.proofs.lemmas.Result.{err_from_is_err_and}
-use Rattle.vdiff_core.proofs.PrintLaws.{added_breaks, added_more, adding_breaks, then_adds}
+use Rattle.printing.proofs.PrintLaws.{added_breaks, added_more, adding_breaks, then_adds}
 use Rattle.vrepl_feed.proofs.refusal.add_text_line.Goals as goal
 
 pub returns-in_err-add_named : goal.returns-in_err-add_named

@@ -1,5 +1,5 @@
 use Rattle.std.proofs.Common.{[], inr}
-use Rattle.vdiff_core.proofs.PrintLaws.{adds_then_prints}
+use Rattle.printing.proofs.PrintLaws.{adds_then_prints}
 use Rattle.vrepl_main.proofs.AddLaws.{tried}
 use Rattle.vrepl_feed.specs.Refusals.{text_line}
 use Rattle.vrepl_feed.proofs.refusal.print_text.Goals as goal

@@ -1,6 +1,6 @@
 use Rattle.std.proofs.Common.{[], Err, Ok}
 use Rattle.std.proofs.lemmas.Result.{err_from_is_err_and}
-use Rattle.vdiff_core.specs.declared.writer.OutFailed.{OutFailed}
+use Rattle.printing.specs.declared.writer.OutFailed.{OutFailed}
 use Rattle.vrepl_main.specs.Adding.{at}
 use Rattle.vrepl_main.specs.Comparison.{Compared, report_text}
 use Rattle.vrepl_main.proofs.AddLaws.{first_stops, then_put, then_stops, then_finishes}

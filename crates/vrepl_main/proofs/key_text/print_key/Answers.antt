@@ -1,8 +1,8 @@
 use Rattle.std.proofs.Common.{◌∙◌, ap, sym, subst}
 use Rattle.std.proofs.lemmas.Result.{err_from_is_err_and}
-use Rattle.vdiff_core.proofs.KeyTextLaws.{parts_split}
+use Rattle.dump.proofs.KeyTextLaws.{parts_split}
 use Rattle.pk_copy.specs.KeyValue.{KeyValue}
-use Rattle.vdiff_core.specs.KeyText.{parts_text}
+use Rattle.dump.specs.KeyText.{parts_text}
 use Rattle.vrepl_main.specs.Adding.{IsBegun, AddsText}
 use Rattle.vrepl_main.proofs.AddLaws.{first_stops, then_prints}
 use Rattle.vrepl_main.proofs.key_text.print_key.Goals as goal

@@ -1,10 +1,10 @@
 use Rattle.std.proofs.Common.{get_or}
 use Rattle.std.specs.Prelude.{codes, pos}
 use Rattle.std.proofs.lemmas.Result.{err_from_is_err_and}
-use Rattle.vdiff_core.proofs.KeyTextLaws.{first_part}
+use Rattle.dump.proofs.KeyTextLaws.{first_part}
 use Rattle.pk_copy.specs.PartValue.{part_value}
 use Rattle.pk_copy.specs.declared.part.KeyPart.TheVariants.{Number}
-use Rattle.vdiff_core.specs.KeyText.{part_cell}
+use Rattle.dump.specs.KeyText.{part_cell}
 use Rattle.vrepl_main.proofs.AddLaws.{moves, stops, first_stops, then_stops, then_put}
 use Rattle.vrepl_main.proofs.key_text.print_more_parts.Goals as goal
 

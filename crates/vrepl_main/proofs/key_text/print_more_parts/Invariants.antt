@@ -1,6 +1,6 @@
 use Rattle.std.proofs.Common.{drop, map}
 use Rattle.pk_copy.specs.PartValue.{part_value}
-use Rattle.vdiff_core.specs.KeyText.{more_parts}
+use Rattle.dump.specs.KeyText.{more_parts}
 use Rattle.vrepl_main.specs.Adding.{at, IsPutUpTo}
 use Rattle.vrepl_main.proofs.key_text.print_more_parts.Given as goal
 

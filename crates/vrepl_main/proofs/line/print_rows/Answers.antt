@@ -1,8 +1,8 @@
 use Rattle.std.proofs.Common.{[], Err}
 use Rattle.std.proofs.lemmas.Result.{err_from_is_err_and}
 use Rattle.apply_core.specs.Shown.{all_rows}
-use Rattle.vdiff_core.specs.Dump.{dump_of}
-use Rattle.vdiff_core.proofs.PrintLaws.{adds_none_written, first_breaks, prints_adds, then_adds}
+use Rattle.dump.specs.Dump.{dump_of}
+use Rattle.printing.proofs.PrintLaws.{adds_none_written, first_breaks, prints_adds, then_adds}
 use Rattle.vrepl_main.proofs.AddLaws.{added}
 use Rattle.vrepl_main.proofs.line.print_rows.Goals as goal
 

@@ -1,5 +1,5 @@
 use Rattle.row_view.specs.ColumnValue.{column_value}
-use Rattle.vdiff_core.specs.Cells.{cell}
+use Rattle.dump.specs.Cells.{cell}
 use Rattle.vrepl_main.proofs.AddLaws.{added}
 use Rattle.vrepl_main.proofs.output.print_cell.Goals as goal
 

@@ -1,4 +1,4 @@
-use Rattle.vdiff_core.specs.Cells.{cells}
+use Rattle.dump.specs.Cells.{cells}
 use Rattle.vrepl_main.proofs.AddLaws.{added}
 use Rattle.vrepl_main.proofs.output.print_cells.Goals as goal
 

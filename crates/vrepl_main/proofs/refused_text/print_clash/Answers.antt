@@ -2,7 +2,7 @@ use Rattle.std.proofs.Common.{◌++◌}
 use Rattle.std.proofs.lemmas.Result.{err_from_is_err_and}
 use Rattle.std.specs.Prelude.{codes}
 use Rattle.filter_rule.specs.PlanTable.{name_of_table}
-use Rattle.vdiff_core.specs.KeyText.{key_text}
+use Rattle.dump.specs.KeyText.{key_text}
 use Rattle.vrepl_main.specs.RefusedText.{owner_text}
 use Rattle.vrepl_main.proofs.AddLaws.{first_stops, then_prints, then_put, then_stops}
 use Rattle.vrepl_main.proofs.refused_text.print_clash.Goals as goal

@@ -1,5 +1,5 @@
 use Rattle.std.proofs.Common.{[], ◌∷◌, ◌++◌}
-use Rattle.vdiff_core.specs.Cells.{cells}
+use Rattle.dump.specs.Cells.{cells}
 use Rattle.std.proofs.lemmas.Result.{err_from_is_err_and}
 use Rattle.vrepl_main.proofs.AddLaws.{first_stops, then_stops, then_prints, then_put}
 use Rattle.vrepl_main.proofs.shown.print_row.Goals as goal

@@ -1,4 +1,4 @@
-use Rattle.vdiff_core.proofs.PrintLaws.{adds_none}
+use Rattle.printing.proofs.PrintLaws.{adds_none}
 use Rattle.vrepl_main.proofs.shown.print_row_if.Goals as goal
 
 pub returns-in-None : goal.returns-in-None

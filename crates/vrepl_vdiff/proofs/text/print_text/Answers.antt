@@ -2,9 +2,9 @@ use Rattle.std.proofs.Common.{◌++◌, [], map, refl}
 use Rattle.std.proofs.lemmas.Result.{err_from_is_err_and}
 use Rattle.std.specs.Option.{option_map}
 use Rattle.vrepl_main.proofs.VdiffLaws.{comparison_is}
-use Rattle.vdiff_core.proofs.PrintLaws.{adding_breaks, added_breaks, added_more, adds_then_prints}
-use Rattle.vdiff_tables.specs.NamedReports.{named_report}
-use Rattle.vdiff_tables.specs.Texts.{differences_text, tables_text}
+use Rattle.printing.proofs.PrintLaws.{adding_breaks, added_breaks, added_more, adds_then_prints}
+use Rattle.vdiff.specs.NamedReports.{named_report}
+use Rattle.vdiff.specs.Texts.{differences_text, tables_text}
 use Rattle.vrepl_main.specs.Comparison.{Compared, first_text, report_text}
 use Rattle.vrepl_vdiff.proofs.text.print_text.Goals as goal
 

@@ -1,6 +1,6 @@
 use Rattle.std.proofs.Common.{[], ◌∷◌, List, ℕ, map, subst}
 use Rattle.serde_json.specs.Written.{compact_text}
-use Rattle.vdiff_core.specs.Printing.{Prints}
+use Rattle.printing.specs.Printing.{Prints}
 use Rattle.json_pieces.specs.Pieces.{list_data}
 use Rattle.json_pieces.proofs.TellLaws.{then_tells}
 use Rattle.check_said.specs.Json.{json_line, note_data, passed_data, shared_if, streams_data, told_data, whole_data}

@@ -1,5 +1,5 @@
 use Rattle.std.proofs.Common.{◌++◌, List, ℕ, ap, subst}
-use Rattle.vdiff_core.specs.Printing.{Prints}
+use Rattle.printing.specs.Printing.{Prints}
 use Rattle.json_pieces.specs.Telling.{LineValue, Tells, at}
 use Rattle.json_pieces.proofs.TellLaws.{same_text, then_tells}
 use Rattle.compaction.specs.Private.Sized.{joined}

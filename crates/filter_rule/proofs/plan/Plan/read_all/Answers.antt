@@ -1,4 +1,5 @@
 use Rattle.filter_rule.proofs.ReadLaws.{first_of, json_only, json_is_none, stands_in}
+use Rattle.filter_rule.proofs.SoundLaws.{is_faultless}
 use Rattle.filter_rule.proofs.WholeLaws.{are_plans, are_of_streams}
 use Rattle.filter_rule.proofs.plan.Plan.read_all.Goals as goal
 
@@ -19,3 +20,6 @@ returns-clause-streams c = are_of_streams c.args.text.now c.plans_of.result c.pl
 
 pub returns-clause-stands : goal.returns-clause-stands
 returns-clause-stands c = stands_in c.args.text.now c.plans_of.result c.plans_of.ensures.plans
+
+pub returns-clause-sound : goal.returns-clause-sound
+returns-clause-sound c = is_faultless c.args.text.now c.plans_of.result c.plans_of.ensures.plans

@@ -8,7 +8,7 @@ use Rattle.source_feed.specs.Planned.{source_of, planned_group}
 use Rattle.source_feed.specs.Private.FeedTables.{AreNumbered}
 use Rattle.source_feed.specs.Private.NamedGroups.{all_named}
 use Rattle.std.proofs.lemmas.Result.{err_from_is_err_and}
-use Rattle.outcome.specs.Outcome.{Refuses}
+use Rattle.list_laws.specs.Outcome.{Refuses}
 use Rattle.source_feed.specs.FaultNumber.{meant_of}
 use Rattle.source_feed.proofs.FirstFaultLaws.{refusal_under, seen_different}
 use Rattle.source_feed.proofs.NumberedLaws.{kept_under}

@@ -1,6 +1,6 @@
 use Rattle.std.proofs.Common.{◌≡◌, ◌+◌, ◌-◌, ◌^◌, ◌<◌, ◌≤◌, ◌++◌, ℕ, List, length, length-append, take, reverse, Result, Err, refl, sym, ap, subst, ◌∙◌, arith}
 use Rattle.std.proofs.lemmas.Result.{err_from_is_err_and}
-use Rattle.outcome.specs.Outcome.{Refuses}
+use Rattle.list_laws.specs.Outcome.{Refuses}
 use Rattle.source_feed.specs.declared.fault.FeedFault.{FeedFault}
 use Rattle.source_feed.specs.declared.fault.FeedFault.TheVariants.{OpenAtEnd}
 use Rattle.source_feed.specs.declared.feed_end.FeedEnd.{FeedEnd}
@@ -14,7 +14,7 @@ use Rattle.source_feed.specs.Growing.{IsEndOf}
 use Rattle.source_feed.specs.Private.KnownBehind.{past_of}
 use Rattle.source_feed.proofs.EndLaws.{known, sound}
 use Rattle.source_feed.proofs.ReadOnLaws.{refused_for, sound_for}
-use Rattle.source_feed.proofs.GrownLaws.{not_open, settled_front, grown_groups, is_feed, known_behind}
+use Rattle.source_feed.proofs.GrownLaws.{not_open, settled_front, is_feed, grown_end}
 use Rattle.source_feed.proofs.feed_end.FeedEnd.grow.Goals as goal
 
 -- all bytes are within the limit
@@ -81,16 +81,28 @@ returns-clause-groups c = λ bytes e.
     let taken : ℕ = c.in_ok-reader.taken in
     let feed : FeedValue = c.args.feed.now in
     let short : length bytes + length piece < 2 ^ 31 = room_for bytes piece feed c.args.self.now e c.if-piece-self.false in
-    let r = c.in_ok-reader.ensures.read bytes e in
     let kept : KeptGroups = c.in_ok-tables.field-0 in
-    let held = c.in_ok-tables.ensures.held in
     let new : FeedEnd = record { tables = kept.tables; length = c.args.self.now.length + taken } in
-    let is : c.put_behind.new.self ≡ record { plan = feed.plan; groups = feed.groups ++ c.in_ok-planned_of_tables.field-0.items } = c.in_ok-put_behind.ensures.ok in
-    let grown = is ∙ ap (λ (more : List PlannedGroupValue). record { plan = feed.plan; groups = feed.groups ++ more }) c.in_ok-planned_of_tables.ensures.ok in
-    subst (λ (f : FeedValue). IsEndOf (bytes ++ take taken piece) f new) (sym grown) (record {
-      groups = grown_groups c.set_laws.ensures bytes piece taken feed c.args.self.now c.in_ok-reader.reader e r short kept held.0 held.1;
-      known = known_behind c.set_laws.ensures bytes piece taken feed c.args.self.now c.in_ok-reader.reader e r short kept held.0 held.1 new refl refl;
-    })
+    grown_end c.set_laws.ensures bytes piece taken feed c.args.self.now c.in_ok-reader.reader e (c.in_ok-reader.ensures.read bytes e) short kept c.in_ok-tables.ensures.held.0 c.in_ok-tables.ensures.held.1
+    c.in_ok-planned_of_tables.field-0.items c.put_behind.new.self new c.in_ok-planned_of_tables.ensures.ok c.in_ok-put_behind.ensures.ok refl refl
+
+pub returns-clause-one : goal.returns-clause-one
+returns-clause-one c =
+    let bytes : List ℕ = c.requires.0 in
+    let e = c.requires.1 in
+    let piece : List ℕ = c.args.piece.now in
+    let taken : ℕ = c.in_ok-reader.taken in
+    let feed : FeedValue = c.args.feed.now in
+    let short : length bytes + length piece < 2 ^ 31 = room_for bytes piece feed c.args.self.now e c.if-piece-self.false in
+    let kept : KeptGroups = c.in_ok-tables.field-0 in
+    let new : FeedEnd = record { tables = kept.tables; length = c.args.self.now.length + taken } in (
+      bytes ++ take taken piece,
+      grown_end c.set_laws.ensures bytes piece taken feed c.args.self.now c.in_ok-reader.reader e (c.in_ok-reader.ensures.read bytes e) short kept c.in_ok-tables.ensures.held.0 c.in_ok-tables.ensures.held.1
+          c.in_ok-planned_of_tables.field-0.items c.put_behind.new.self new c.in_ok-planned_of_tables.ensures.ok c.in_ok-put_behind.ensures.ok refl refl,
+    )
+
+pub returns-clause-within : goal.returns-clause-within
+returns-clause-within c = (c.in_ok-reader.ensures.read c.requires.0 c.requires.1).within
 
 pub returns-clause-sound : goal.returns-clause-sound
 returns-clause-sound c = λ bytes e.

@@ -3,7 +3,7 @@ use Rattle.proto_wire.specs.Frame.{frames_of}
 use Rattle.source_feed.proofs.FrameLaws.{few_messages}
 use Rattle.source_feed.specs.Pieces.{IsWholeFront, broken_by, messages_in}
 use Rattle.source_feed.specs.FaultNumber.{meant_of}
-use Rattle.outcome.specs.Outcome.{Refuses}
+use Rattle.list_laws.specs.Outcome.{Refuses}
 use Rattle.source_feed.proofs.PiecesLaws.{more_front, more_broken, more_messages, messages_are, messages_broken, messages_said, refuses_broken}
 use Rattle.source_feed.proofs.pieces.FeedBuilder.push.Goals as goal
 

@@ -1,5 +1,5 @@
 use Rattle.std.proofs.Common.{subst}
-use Rattle.outcome.specs.Outcome.{Gives}
+use Rattle.list_laws.specs.Outcome.{Gives}
 use Rattle.vevent.specs.EventView.{event_value}
 use Rattle.vevent.proofs.Verdicts.{event_stands, refusal_stands, every_event, every_refusal}
 use Rattle.vevent.proofs.event.Event.read.Goals as goal

@@ -1,0 +1,3 @@
+pub mod DigitPairs
+mod DigitLanes
+pub mod PrintLaws

@@ -1,0 +1,2 @@
+-- What proofs about printed texts alone need.
+pub mod Progress

@@ -1,0 +1,9 @@
+pub mod Report
+pub mod Reports
+pub mod NamedReports
+pub mod Differences
+pub mod Found
+pub mod Texts
+pub mod AddedDifferences
+pub mod Json
+pub mod Private

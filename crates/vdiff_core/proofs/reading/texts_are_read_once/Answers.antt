@@ -1,5 +1,0 @@
-use Rattle.vdiff_core.proofs.StandLaws.{read_once}
-use Rattle.vdiff_core.proofs.reading.texts_are_read_once.Goals as goal
-
-pub returns : goal.returns
-returns c = read_once

@@ -1,9 +1,0 @@
-pub mod DumpRowsValue
-pub mod Printing
-pub mod Cells
-pub mod KeyText
-pub mod Dump
-pub mod Private
-pub mod Report
-pub mod DumpReading
-pub mod DumpFaults

@@ -1,7 +1,0 @@
--- What private code alone needs.
-pub mod Progress
-pub mod Tables
-pub mod Reading
-pub mod Spans
-pub mod Lent
-pub mod Known

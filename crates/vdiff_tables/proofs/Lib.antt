@@ -1,4 +1,0 @@
-mod WalkLaws
-mod TableLaws
-mod TextLaws
-pub mod DifferenceLaws

@@ -1,4 +1,0 @@
-use Rattle.vdiff_tables.proofs.put.put_number.Goals as goal
-
-pub returns : goal.returns
-returns g c = rw c.format.ensures.text at c.put_str.ensures

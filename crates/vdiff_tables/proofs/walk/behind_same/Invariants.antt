@@ -1,9 +1,0 @@
-use Rattle.std.proofs.Common.{length}
-use Rattle.vdiff_tables.specs.Private.Same.{IsBehindSame}
-use Rattle.vdiff_tables.proofs.walk.behind_same.Given as goal
-
-abbrev pub invariant-loop-ours : goal.invariant-loop-ours
-invariant-loop-ours l = IsBehindSame l.fn.source l.fn.target l.left l.right
-
-abbrev pub decreases-loop-ours : goal.decreases-loop-ours
-decreases-loop-ours l = length l.left

@@ -1,5 +1,0 @@
-use Rattle.vdiff_tables.proofs.WalkLaws.{next_of_both}
-use Rattle.vdiff_tables.proofs.walk.of_both.Goals as goal
-
-pub returns : goal.returns
-returns c = next_of_both _ _ _ _ _ _ c.requires.source c.requires.target c.requires.key c.requires.rows

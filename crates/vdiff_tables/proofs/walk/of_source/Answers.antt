@@ -1,5 +1,0 @@
-use Rattle.vdiff_tables.proofs.WalkLaws.{next_of_source}
-use Rattle.vdiff_tables.proofs.walk.of_source.Goals as goal
-
-pub returns : goal.returns
-returns c = next_of_source _ _ _ _ c.requires.source c.requires.target

@@ -1,6 +1,0 @@
--- The counts of tables without their references.
-use Rattle.vdiff_tables.specs.Reports.{NamedReport}
-use Rattle.vdiff_tables.specs.declared.reports.TableReport.{TableReport}
-
-abbrev pub named_report : TableReport → NamedReport
-named_report table = record { name = table.name.now; report = table.report }

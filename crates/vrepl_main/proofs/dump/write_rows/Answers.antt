@@ -1,4 +1,0 @@
-use Rattle.vrepl_main.proofs.dump.write_rows.Goals as goal
-
-pub returns : goal.returns
-returns g c = rw (← c.target.ensures) c.write_target_dump.ensures
