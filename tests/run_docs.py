@@ -18,6 +18,7 @@ document, one for the paths, the chapters, the lists, the texts, the pages, the 
 """
 import contextlib
 import functools
+import glob
 import json
 import os
 import re
@@ -103,9 +104,11 @@ def promises():
 def promise_faults():
     """Each edit is named in a row of its crate, and what is named there is one of some crate."""
     there = {}
-    for at, _, names in os.walk(CRATES):
-        if at.endswith("must-fail"):
-            there[os.path.basename(os.path.dirname(at))] = {it.removesuffix(".edit") for it in names}
+    for at in (*glob.glob(os.path.join(CRATES, "*", "must-fail", "*.edit")), *glob.glob(os.path.join(ROOT, "tests", "edits", "*", "*.edit"))):
+        folder, name = os.path.split(at)
+        crate = os.path.basename(os.path.dirname(folder) if folder.endswith("must-fail") else folder)
+        there.setdefault(crate, set()).add(name.removesuffix(".edit"))
+    yield from (f"tests/edits/{it}: no such crate" for it in sorted(set(there) - set(crates())))
     said = {}
     for number, crate, (promise, contract, edits) in promises():
         said.setdefault(crate, set()).update(re.findall(r"\w+", edits))

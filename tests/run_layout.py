@@ -3,10 +3,10 @@
 
 usage: tests/run_layout.py
 
-Each crate's files are in the layout that `rt fmt` gives them, each text that a must-fail edit replaces stands once in
-its file, and each folder of proofs/ is that of a function which is there. The gate says so too, but late: of a crate
-only once those below it are proved, or once it is proved itself. The last line is 'N passed, M failed': three for each
-crate.
+Each crate's files are in the layout that `rt fmt` gives them, each text that an edit of must-fail/ or tests/edits
+replaces stands once in its file, with the function that is to refuse it, and each folder of proofs/ is that of a function which is there. The gate says so
+too, but late: of a crate only once those below it are proved, or once it is proved itself. The last line is 'N passed,
+M failed': three for each crate.
 """
 import concurrent.futures
 import filecmp
@@ -40,19 +40,24 @@ def misplaced(crate: pathlib.Path, room: pathlib.Path) -> list[str]:
 
 
 def unusable(crate: pathlib.Path) -> list[str]:
-    """The texts of must-fail edits that don't stand just once in their file as the edits before them leave it."""
+    """The texts of edits that don't stand just once in their file as the edits before them leave it, and the functions that aren't there."""
     told = []
-    for edit in sorted((crate / "must-fail").glob("*.edit")):
+    for edit in sorted([*(crate / "must-fail").glob("*.edit"), *(ROOT / "tests" / "edits" / crate.name).glob("*.edit")]):
         name, old, texts = "", None, {}
         for line in edit.read_text().split("\n"):
             kind, _, value = line.partition(": ")
-            if kind == "file":
+            if kind == "at":
+                *above, method = value.strip().split("::")
+                file = (crate / "src" / above[0]).with_suffix(".rt") if above else crate / "src" / "lib.rt"
+                if not file.is_file() or not re.search(rf"\bfn {re.escape(method)}\b", file.read_text()):
+                    told.append(f"{edit.parent.name}/{edit.name}: no function {value.strip()}")
+            elif kind == "file":
                 name = value.strip()
                 texts.setdefault(name, (crate / name).read_text() if (crate / name).is_file() else "")
             elif kind == "old":
                 old = value
                 if texts[name].count(old) != 1:
-                    told.append(f"must-fail/{edit.name}: a text stands {texts[name].count(old)} times in {name}: {old.strip()[:60]}")
+                    told.append(f"{edit.parent.name}/{edit.name}: a text stands {texts[name].count(old)} times in {name}: {old.strip()[:60]}")
             elif kind == "new" or line == "new:":
                 texts[name] = texts[name].replace(old, value, 1)
     return told

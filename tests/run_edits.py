@@ -1,0 +1,236 @@
+#!/usr/bin/env python3
+"""Shows that contracts refuse wrong bodies.
+
+usage: tests/run_edits.py [CRATE..]
+       tests/run_edits.py --whole [CRATE..]
+
+An edit is a file tests/edits/CRATE/NAME.edit, named for the bug that it plants. It is written as those in a crate's must-fail/
+are, by lines `file: `, `old: ` and `new: ` of one line each, a further pair over what the one before made. A line `at: PATH` names the function, below the crate,
+whose contract has to refuse the new body, as the prover names it: a method by its type, one of a trait by type and trait, as
+`printed::GtidSetDisplay::fmt`.
+
+Each edit with such a line is tried over the libraries that `rt ci` has just proved (scripts/proved.py): the function and what it
+calls are proved, and not the rest of the crate, in which `rt ci` tries edits. Edits of one crate are tried together, but no two of one
+function. The function has to be the one that isn't proved, by an error in its own proof; everything else that was tried has to be proved,
+but what rests on an edited function. Where `rt ci` hasn't just run, `rt check` proves what lies below first.
+
+With --whole each edit, with such a line or none, is put into must-fail/ of a copy of the tree and tried by `rt must-fail`, which proves the whole crate with
+it: for days of a release. The last line is 'N passed, M failed', one an edit.
+"""
+import collections
+import concurrent.futures
+import contextlib
+import os
+import pathlib
+import re
+import shutil
+import subprocess
+import sys
+import tempfile
+import typing
+
+ROOT = pathlib.Path(__file__).resolve().parent.parent
+EDITS = ROOT / "tests" / "edits"
+PARTS = ("src", "specs", "proofs")
+sys.path.insert(0, str(ROOT / "scripts"))
+import proved  # noqa: E402
+
+
+class Edit(typing.NamedTuple):
+    crate: str
+    name: str
+    at: str
+    pairs: list[tuple[str, str, str]]
+
+
+def read(file: pathlib.Path) -> Edit:
+    """Reads an edit: where it has to be refused, and its pairs, each with its file."""
+    at = name = old = ""
+    pairs = []
+    for line in file.read_text().split("\n"):
+        kind, _, value = line.partition(": ")
+        if kind == "at":
+            at = value.strip()
+        elif kind == "file":
+            name = value.strip()
+        elif kind == "old":
+            old = value
+        elif kind == "new" or line == "new:":
+            pairs.append((name, old, value))
+    return Edit(file.parent.name, file.stem, at, pairs)
+
+
+def edits(crates: list[str]) -> dict[str, list[Edit]]:
+    """The edits of these crates, or of all."""
+    found: dict[str, list[Edit]] = {}
+    for file in sorted(EDITS.glob("*/*.edit")):
+        if not crates or file.parent.name in crates:
+            found.setdefault(file.parent.name, []).append(read(file))
+    return found
+
+
+def changed(room: pathlib.Path, edit: Edit) -> dict[pathlib.Path, str] | None:
+    """The texts of the files that an edit changes in a copy of its crate, or None where a text that it replaces isn't there once."""
+    texts: dict[pathlib.Path, str] = {}
+    for name, old, new in edit.pairs:
+        text = texts.setdefault(room / name, (room / name).read_text() if (room / name).is_file() else "")
+        if text.count(old) != 1:
+            return None
+        texts[room / name] = text.replace(old, new)
+    return texts
+
+
+def rounds(these: list[Edit]) -> list[list[Edit]]:
+    """Parts edits so that no two of one part are of one function."""
+    made: list[list[Edit]] = []
+    for edit in these:
+        free = next((part for part in made if edit.at not in [it.at for it in part]), None)
+        if free is None:
+            made.append(free := [])
+        free.append(edit)
+    return made
+
+
+def faults(part: list[Edit], status: int | None, said: str) -> list[str]:
+    """Why edits of a part aren't refused as wanted, by what the check of the crate with all of them said."""
+    crate = part[0].crate
+    lines = said.split("\n")
+    front = next((it for it in lines if re.search(r"\berror\[[\w-]+\]", it)), None)
+    if status != 1 or front or "logic=" in said or not re.search(r"^only=\d+ proved=\d+$", said, re.M):
+        return [f"{crate}/{'+'.join(it.name for it in part)}: no verdict, status {status}: {front or said[-600:]}"]
+    verdicts = dict(re.findall(r"^fn (\S+): (.*)$", said, re.M))
+    told = []
+    for edit in part:
+        verdict = verdicts.get(f"{crate}::{edit.at}")
+        own = re.compile(rf"(\./)?proofs/{re.escape(edit.at.replace('::', '/'))}/|.*\b{re.escape(edit.at.replace('::', '.'))}\b")
+        if verdict == "proved":
+            told.append(f"{crate}/{edit.name}: NOT REFUSED: {edit.at} is proved all the same")
+        elif verdict != "not proved":
+            told.append(f"{crate}/{edit.name}: {edit.at}: {verdict or 'the check has no such function'}")
+        elif not any(own.match(it) and "error" in it for it in lines):
+            told.append(f"{crate}/{edit.name}: {edit.at} isn't proved, but for no fault of its own proof: {said[:600]}")
+    return told
+
+
+def copied(crate: str, room: pathlib.Path) -> pathlib.Path:
+    for name in PARTS:
+        if (ROOT / "crates" / crate / name).is_dir():
+            shutil.copytree(ROOT / "crates" / crate / name, room / name)
+    return room
+
+
+def tried(part: list[Edit], checked: typing.Callable[[str, pathlib.Path, list[str]], tuple[int | None, str]]) -> list[str]:
+    """Tries edits of one crate together, and each alone where together they tell nothing."""
+    crate = part[0].crate
+    with tempfile.TemporaryDirectory(prefix="vrepl-edits-") as made:
+        room = copied(crate, pathlib.Path(made) / crate)
+        for edit in part:
+            texts = changed(room, edit)
+            if texts is None:
+                return [f"{crate}/{edit.name}: a text that it replaces isn't there once"]
+            for file, text in texts.items():
+                file.write_text(text)
+        told = faults(part, *checked(crate, room, [it.at for it in part]))
+    if told and len(part) > 1:
+        return [line for edit in part for line in tried([edit], checked)]
+    return told
+
+
+def over_gate(crate: str, room: pathlib.Path, paths: list[str]) -> tuple[int | None, str]:
+    """Checks functions of a crate's copy over the libraries that `rt ci` has just proved."""
+    only = [word for it in paths for word in ("--only", it)]
+    ran = subprocess.run([proved.kit() / "bin" / "rattle", "check", *proved.words(crate), "--jobs", "1", *only],
+                         cwd=room, stdin=subprocess.DEVNULL, stdout=subprocess.PIPE, stderr=subprocess.STDOUT, text=True, errors="replace", check=False)  # fmt: skip
+    return ran.returncode, ran.stdout
+
+
+def workspace(to: pathlib.Path) -> None:
+    """Copies the tree that `rt` works in, with what was proved there by links."""
+
+    def link(one: str, other: str) -> None:
+        try:
+            os.link(one, other)
+        except OSError:
+            shutil.copy2(one, other)
+
+    for crate in sorted(it.parent for it in (ROOT / "crates").glob("*/src")):
+        copied(crate.name, to / "crates" / crate.name)
+        for name in ("rlib", "incremental"):
+            with contextlib.suppress(OSError):
+                shutil.copytree(crate / "out" / name, to / "crates" / crate.name / "out" / name, copy_function=link)
+    for name in ("crates.txt", "HANDLES"):
+        shutil.copy(ROOT / name, to)
+
+
+def over_rt(top: pathlib.Path) -> typing.Callable[[str, pathlib.Path, list[str]], tuple[int | None, str]]:
+    """Gives a check by `rt check`, which proves what lies below, in a copy of the tree."""
+
+    def checked(crate: str, room: pathlib.Path, paths: list[str]) -> tuple[int | None, str]:
+        folder = top / "crates" / crate
+        for name in PARTS:
+            shutil.rmtree(folder / name, ignore_errors=True)
+            if (room / name).is_dir():
+                shutil.copytree(room / name, folder / name)
+        ran = subprocess.run(["rt", "check", *(f"--only={it}" for it in paths)], cwd=folder, stdin=subprocess.DEVNULL,
+                             stdout=subprocess.PIPE, stderr=subprocess.STDOUT, text=True, errors="replace", check=False)  # fmt: skip
+        return ran.returncode, ran.stdout
+
+    return checked
+
+
+def whole(these: dict[str, list[Edit]]) -> int:
+    """Has `rt must-fail` try each edit over the whole of its crate."""
+    failed = 0
+    with tempfile.TemporaryDirectory(prefix="vrepl-edits-") as made:
+        workspace(pathlib.Path(made))
+        for crate in these:
+            shutil.copytree(EDITS / crate, pathlib.Path(made) / "crates" / crate / "must-fail")
+        ran = subprocess.run(["rt", "must-fail", *these], cwd=made, stdin=subprocess.DEVNULL, stdout=subprocess.PIPE, stderr=subprocess.STDOUT, text=True, errors="replace", check=False)
+        print(ran.stdout, end="")
+        for crate, of_crate in these.items():
+            failed += sum(not re.search(rf"must-fail {crate}/{it.name}\.edit: refused, as it must be", ran.stdout) for it in of_crate)
+    print(f"{sum(map(len, these.values())) - failed} passed, {failed} failed")
+    return int(failed > 0)
+
+
+def lanes() -> int:
+    """How many checks run side by side: as many as ./test lets the toolchain run, or one a processor."""
+    given = os.environ.get("RT_JOBS", "")
+    return int(given) if given.isdigit() and int(given) else len(os.sched_getaffinity(0))
+
+
+def main(*given: str) -> int:
+    if any(it.startswith("-") and it != "--whole" for it in given):
+        print(__doc__, file=sys.stderr)
+        return 2
+    if not shutil.which("rt"):
+        print("wrong bodies: not tried, since the toolchain isn't installed")
+        print("0 passed, 0 failed")
+        return 0
+    these = edits([it for it in given if it != "--whole"])
+    if "--whole" in given:
+        return whole(these)
+    parts = [part for of_crate in these.values() for part in rounds([it for it in of_crate if it.at])]
+    with contextlib.ExitStack() as stack:
+        checked: typing.Callable[[str, pathlib.Path, list[str]], tuple[int | None, str]] = over_gate
+        many = lanes()
+        try:
+            proved.hold_to_sources()
+            for crate in these:
+                proved.words(crate)
+        except proved.Unproved as why:
+            print(f"{why}: `rt check` proves what lies below the crates first")
+            top = pathlib.Path(stack.enter_context(tempfile.TemporaryDirectory(prefix="vrepl-edits-")))
+            workspace(top)
+            checked, many = over_rt(top), 1
+        pool = stack.enter_context(concurrent.futures.ThreadPoolExecutor(many))
+        told = [line for lines in pool.map(lambda part: tried(part, checked), parts) for line in lines]
+    for line in told:
+        print(line)
+    counted = collections.Counter(it.crate for part in parts for it in part)
+    print(f"{sum(counted.values()) - len(told)} passed, {len(told)} failed")
+    return int(bool(told))
+
+
+if __name__ == "__main__":
+    sys.exit(main(*sys.argv[1:]))
