@@ -105,7 +105,7 @@ def faults(part: list[Edit], status: int | None, said: str) -> list[str]:
         own = re.compile(rf"(\./)?proofs/{re.escape(edit.at.replace('::', '/'))}/|.*\b{re.escape(edit.at.replace('::', '.'))}\b")
         if verdict == "proved":
             told.append(f"{crate}/{edit.name}: NOT REFUSED: {edit.at} is proved all the same")
-        elif verdict != "not proved":
+        elif not verdict or not verdict.startswith("not proved"):
             told.append(f"{crate}/{edit.name}: {edit.at}: {verdict or 'the check has no such function'}")
         elif not any(own.match(it) and "error" in it for it in lines):
             told.append(f"{crate}/{edit.name}: {edit.at} isn't proved, but for no fault of its own proof: {said[:600]}")
