@@ -4,18 +4,18 @@
 usage: tests/run_edits.py [CRATE..]
        tests/run_edits.py --whole [CRATE..]
 
-An edit is a file tests/edits/CRATE/NAME.edit, named for the bug that it plants. It is written as those in a crate's must-fail/
-are, by lines `file: `, `old: ` and `new: ` of one line each, a further pair over what the one before made. A line `at: PATH` names the function, below the crate,
-whose contract has to refuse the new body, as the prover names it: a method by its type, one of a trait by type and trait, as
-`printed::GtidSetDisplay::fmt`.
+An edit is a file tests/edits/CRATE/NAME.edit, named for the bug that it plants, in the form of a crate's must-fail/: lines
+`file: `, `old: ` and `new: ` of one line each, a further pair over what the one before made. A line `at: PATH` names the
+function, below the crate, whose contract has to refuse the new body, as the prover names it: a method by its type, one of
+a trait by type and trait, as `printed::GtidSetDisplay::fmt`.
 
-Each edit with such a line is tried over the libraries that `rt ci` has just proved (scripts/proved.py): the function and what it
-calls are proved, and not the rest of the crate, in which `rt ci` tries edits. Edits of one crate are tried together, but no two of one
-function. The function has to be the one that isn't proved, by an error in its own proof; everything else that was tried has to be proved,
-but what rests on an edited function. Where `rt ci` hasn't just run, `rt check` proves what lies below first.
+Each edit with such a line is tried over the libraries that `rt ci` has just proved (scripts/proved.py): the function and
+what it calls are proved, and not the rest of the crate, as `rt ci` does of edits in must-fail/. Edits of one crate are
+tried together, but no two of one function. The function may not be proved, and for a fault in its own proof, not only
+because another edited one that it calls isn't. Where `rt ci` hasn't just run, `rt check` proves what lies below first.
 
-With --whole each edit, with such a line or none, is put into must-fail/ of a copy of the tree and tried by `rt must-fail`, which proves the whole crate with
-it: for days of a release. The last line is 'N passed, M failed', one an edit.
+With --whole each edit, with such a line or none, is put into must-fail/ of a copy of the tree and tried by `rt must-fail`,
+which proves the whole crate with it: for days of a release. The last line is 'N passed, M failed', one an edit.
 """
 import collections
 import concurrent.futures
@@ -101,13 +101,13 @@ def faults(part: list[Edit], status: int | None, said: str) -> list[str]:
     verdicts = dict(re.findall(r"^fn (\S+): (.*)$", said, re.M))
     told = []
     for edit in part:
-        verdict = verdicts.get(f"{crate}::{edit.at}")
-        own = re.compile(rf"(\./)?proofs/{re.escape(edit.at.replace('::', '/'))}/|.*\b{re.escape(edit.at.replace('::', '.'))}\b")
+        verdict = verdicts.get(f"{crate}::{edit.at}", "").partition("; it calls")[0]
+        own = re.compile(rf"(\./)?proofs/{re.escape(edit.at.replace('::', '/'))}/.*error|.*Rattle\.{crate}\.proofs\.{re.escape(edit.at.replace('::', '.'))}\.")
         if verdict == "proved":
             told.append(f"{crate}/{edit.name}: NOT REFUSED: {edit.at} is proved all the same")
-        elif not verdict or not verdict.startswith("not proved"):
+        elif not verdict.startswith(("not proved", "no proof")):
             told.append(f"{crate}/{edit.name}: {edit.at}: {verdict or 'the check has no such function'}")
-        elif not any(own.match(it) and "error" in it for it in lines):
+        elif "did not prove" not in verdict and not own.match(verdict) and not any(own.match(it) for it in lines if ": error" in it):
             told.append(f"{crate}/{edit.name}: {edit.at} isn't proved, but for no fault of its own proof: {said[:600]}")
     return told
 
