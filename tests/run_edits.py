@@ -208,6 +208,10 @@ def main(*given: str) -> int:
         print("0 passed, 0 failed")
         return 0
     these = edits([it for it in given if it != "--whole"])
+    if not these:
+        print(f"no edits of {' '.join(given)} in tests/edits")
+        print("0 passed, 1 failed")
+        return 1
     if "--whole" in given:
         return whole(these)
     parts = [part for of_crate in these.values() for part in rounds([it for it in of_crate if it.at])]
