@@ -6,8 +6,8 @@ usage: tests/run_edits.py [CRATE..]
 
 An edit is a file tests/edits/CRATE/NAME.edit, named for the bug that it plants, in the form of a crate's must-fail/: lines
 `file: `, `old: ` and `new: ` of one line each, a further pair over what the one before made. A line `at: PATH` names the
-function, below the crate, whose contract has to refuse the new body, as the prover names it: a method by its type, one of
-a trait by type and trait, as `printed::GtidSetDisplay::fmt`.
+function, below the crate, whose contract has to refuse the new body, as the prover names it: a method by its type and
+that one's file, wherever it stands, as `set::GtidSet::add`; one of a trait by type and trait, as `printed::GtidSetDisplay::fmt`.
 
 Each edit with such a line is tried over the libraries that `rt ci` has just proved (scripts/proved.py): the function and
 what it calls are proved, and not the rest of the crate, as `rt ci` does of edits in must-fail/. Edits of one crate are

@@ -47,9 +47,11 @@ def unusable(crate: pathlib.Path) -> list[str]:
         for line in edit.read_text().split("\n"):
             kind, _, value = line.partition(": ")
             if kind == "at":
+                # (the prover names a method by the file of its type)
                 *above, method = value.strip().split("::")
-                file = (crate / "src" / above[0]).with_suffix(".rt") if above else crate / "src" / "lib.rt"
-                if not file.is_file() or not re.search(rf"\bfn {re.escape(method)}\b", file.read_text()):
+                file = (crate / "src" / (above or ["lib"])[0]).with_suffix(".rt")
+                among = (crate / "src").rglob("*.rt") if len(above) > 1 else [file]
+                if not file.is_file() or not any(re.search(rf"\bfn {re.escape(method)}\b", it.read_text()) for it in among):
                     told.append(f"{edit.parent.name}/{edit.name}: no function {value.strip()}")
             elif kind == "file":
                 name = value.strip()
