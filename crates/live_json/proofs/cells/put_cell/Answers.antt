@@ -6,10 +6,10 @@ use Rattle.live_json.proofs.cells.put_cell.Goals as goal
 
 pub returns-in-Null : goal.returns-in-Null
 unfolding escape_byte
-returns-in-Null g c = c.put.ensures
+returns-in-Null g c = rw c.in-Null.is c.put.ensures
 
 pub returns-in-Bytes : goal.returns-in-Bytes
 unfolding escape_byte
 returns-in-Bytes g c =
     let text = escape (encode_lower c.in-Bytes.bytes.now) in
-    then_tells _ _ _ (34 ∷ 120 ∷ []) (text ++ 34 ∷ []) c.put-in-Bytes.ensures (then_tells _ _ _ text (34 ∷ []) c.put_hex.ensures c.put-2.ensures)
+    rw c.in-Bytes.is (then_tells _ _ _ (34 ∷ 120 ∷ []) (text ++ 34 ∷ []) c.put-in-Bytes.ensures (then_tells _ _ _ text (34 ∷ []) c.put_hex.ensures c.put-in-Bytes-2.ensures))

@@ -8,4 +8,4 @@ use Rattle.live_json.proofs.cells.put_key.Goals as goal
 
 pub returns : goal.returns
 returns g c =
-    same_text _ _ _ _ (append-nil _ ∙ ap (λ (parts : List Part). compact_text (list_data part_data parts)) c.parts.ensures.parts ∙ ap (λ (key : KeyValue). compact_text (key_data key)) c.view.ensures) c.put_pieces.ensures
+    same_text _ _ _ _ (append-nil _ ∙ ap (λ (parts : List Part). compact_text (list_data part_data parts)) c.parts.ensures.parts ∙ ap (λ (key : KeyValue). compact_text (key_data key)) c.view-view.ensures) c.put_pieces.ensures

@@ -6,7 +6,7 @@ use Rattle.live_json.specs.Answers.{cell_data}
 use Rattle.live_json.proofs.cells.put_row.Goals as goal
 
 pub loop-column-init : goal.loop-column-init
-loop-column-init g c = rw (c.into_iter-column-iterator.ensures.into_iter_gives, c.columns.ensures) (begins _ _ (91 ∷ []) (items_text false (items_of (map cell_data c.args.row.now))) c.put.ensures)
+loop-column-init g c = rw (c.into_iter-column-iterator.ensures.into_iter_gives, c.columns-column-items.ensures) (begins _ _ (91 ∷ []) (items_text false (items_of (map cell_data c.args.row.now))) c.put.ensures)
 
 pub loop-column-preserved : goal.loop-column-preserved
 loop-column-preserved g c =

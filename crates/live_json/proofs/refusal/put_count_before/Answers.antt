@@ -9,6 +9,7 @@ use Rattle.live_json.proofs.refusal.put_count_before.Goals as goal
 pub returns-in-Some : goal.returns-in-Some
 unfolding escape_byte
 returns-in-Some g c =
-    then_tells _ _ _ (quoted c.args.name.now) _ c.put_name.ensures
+    rw c.in-Some.is
+    (then_tells _ _ _ (quoted c.args.name.now) _ c.put_name.ensures
     (then_tells _ _ _ (codes ":") _ c.put.ensures
-    (then_tells _ _ _ (compact_text (count_data c.in-Some.count)) (codes ",") c.put_count.ensures c.put-2.ensures))
+    (then_tells _ _ _ (compact_text (count_data c.in-Some.count)) (codes ",") c.put_count.ensures c.put-in-Some.ensures)))

@@ -13,4 +13,4 @@ returns g c =
     (then_tells _ _ _ (codes ",\"row\":") _ c.put-2.ensures
     (then_tells _ _ _ (compact_text (row_data c.args.row.now)) _ c.put_row.ensures
     (then_tells _ _ _ (codes ",\"stream\":") _ c.put-3.ensures
-    (then_tells _ _ _ (compact_text (count_data c.args.stream)) (codes "}") c.put_count.ensures c.put-4.ensures)))))
+    (then_tells _ _ _ (compact_text (count_data c.args.stream)) (codes "}") (rw c.from.ensures at c.put_count.ensures) c.put-4.ensures)))))

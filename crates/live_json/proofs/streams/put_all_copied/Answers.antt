@@ -14,7 +14,7 @@ loop-table-init g c = begins _ _ (91 ∷ []) (items_text false (items_of (map co
 
 pub loop-table-preserved : goal.loop-table-preserved
 loop-table-preserved g c =
-    let parts = ap (λ (l : List CopiedTold). items_text c.loop-table.later (items_of (map copied_data (map copied_value l)))) (at_item c.args.tables.now c.loop-table.table-index c.loop-table-item.result (omega (arith, c.loop-table-test.true)) c.loop-table-item.is) in
+    let parts = ap (λ (l : List CopiedTold). items_text c.loop-table.later (items_of (map copied_data (map copied_value l)))) (at_item c.args.tables.now c.loop-table.table-index c.table-item.result (omega (arith, c.loop-table-test.true)) c.table-item.is) in
     moves _ _ _ _ _ _ _ refl (moves _ _ _ _ _ _ _ parts c.loop-table.invariant c.put_comma_if.ensures) c.put_copied.ensures
 
 pub returns : goal.returns

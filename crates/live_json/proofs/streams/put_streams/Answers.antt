@@ -14,7 +14,7 @@ loop-one-init g c = begins _ _ (91 ∷ []) (items_text false (items_of (map stre
 
 pub loop-one-preserved : goal.loop-one-preserved
 loop-one-preserved g c =
-    let parts = ap (λ (l : List StreamTold). items_text c.loop-one.later (items_of (map stream_data (map stream_value l)))) (at_item c.args.streams.now c.loop-one.one-index c.loop-one-item.result (omega (arith, c.loop-one-test.true)) c.loop-one-item.is) in
+    let parts = ap (λ (l : List StreamTold). items_text c.loop-one.later (items_of (map stream_data (map stream_value l)))) (at_item c.args.streams.now c.loop-one.one-index c.one-item.result (omega (arith, c.loop-one-test.true)) c.one-item.is) in
     moves _ _ _ _ _ _ _ refl (moves _ _ _ _ _ _ _ parts c.loop-one.invariant c.put_comma_if.ensures) c.put_stream.ensures
 
 pub returns : goal.returns

@@ -4,4 +4,4 @@ use Rattle.json_pieces.proofs.TellLaws.{same_text}
 use Rattle.live_json.proofs.streams.put_text_or_null.Goals as goal
 
 pub returns-in-Some : goal.returns-in-Some
-returns-in-Some g c = same_text _ _ _ _ (ap quoted c.as_str.ensures.value) c.put_name.ensures
+returns-in-Some g c = rw c.in-Some.is (same_text _ _ _ _ (ap quoted c.as_str.ensures.value) c.put_name.ensures)
