@@ -1,6 +1,6 @@
 -- The answers of a session as JSON (RFC 8259; this profile). An object has its members by their names.
 use Rattle.std.specs.Prelude.{ℕ, List, [], ◌∷◌, ◌++◌, map, Option, None, Some, codes}
-use Rattle.std.specs.Option.{option_map, option_map_or}
+use Rattle.std.specs.Option.{option_map_or}
 use Rattle.filter_rule.specs.PlanTable.{TableValue, name_of_table}
 use Rattle.gtid_set.specs.declared.interval.Interval.{Interval}
 use Rattle.gtid_set.specs.Printed.{printed_position}

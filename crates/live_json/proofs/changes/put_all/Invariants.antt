@@ -1,4 +1,4 @@
-use Rattle.std.proofs.Common.{◌∷◌, drop, false, map}
+use Rattle.std.proofs.Common.{◌∷◌, false, map}
 use Rattle.serde_json.specs.View.{items_of}
 use Rattle.serde_json.specs.Written.{items_text}
 use Rattle.json_pieces.specs.Telling.{IsToldUpTo, at}

@@ -1,4 +1,4 @@
-use Rattle.live_requests.proofs.ValueLaws.{all-values, begins, next-value, no-value, parted, smaller}
+use Rattle.live_requests.proofs.ValueLaws.{all-values, begins, smaller}
 use Rattle.live_requests.proofs.named.values_of.Goals as goal
 
 pub loop-rest-init : goal.loop-rest-init
