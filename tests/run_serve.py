@@ -3,8 +3,8 @@
 
 usage: tests/run_serve.py [--program LIVE] [--picture FILE] PROGRAM [STEP ..]
 
-PROGRAM is a built program, which says what the rows have to be. LIVE is what is run for `vrepl live`: a stand-in for it by the plain
-model, tests/live_model.py, unless one is named. Requests are real ones, pages are looked at in a headless Chromium, and feeds come from
+PROGRAM is a built program, whose `live` runs and whose `run` says what the rows have to be. With --program LIVE is what is run for `vrepl live`,
+as a stand-in by the plain model, tests/live_model.py. Requests are real ones, pages are looked at in a headless Chromium, and feeds come from
 private MariaDB servers in temporary folders, without a network; the last step is the whole chain, from two servers under clients that write,
 to four targets in a third one, with kills of each kind of process. With --picture the page of that is kept in FILE. With STEPs these alone are
 tried. What needs a package of the system's that isn't installed is named and not counted. The last line is 'N passed, M failed': one a check.
@@ -24,7 +24,6 @@ from serve.trial import Trial
 ROOT = os.path.dirname(os.path.dirname(os.path.abspath(__file__)))
 OWN = "/usr/bin/python3"
 MODULES = ("aiohttp", "prometheus_client", "pymysql", "google.protobuf")
-STAND_IN = os.path.join(ROOT, "tests/live_model.py")
 sys.dont_write_bytecode = True
 sys.path.append(os.path.join(ROOT, "record"))
 
@@ -92,7 +91,7 @@ def counts(pid: int, begin: int) -> tuple[int, int]:
 
 def words() -> argparse.Namespace:
     parser = argparse.ArgumentParser(prog="tests/run_serve.py", description=__doc__, formatter_class=argparse.RawDescriptionHelpFormatter)
-    parser.add_argument("--program", default=STAND_IN, metavar="LIVE")
+    parser.add_argument("--program", metavar="LIVE")
     parser.add_argument("--picture", metavar="FILE")
     parser.add_argument("built", metavar="PROGRAM")
     parser.add_argument("steps", nargs="*", metavar="STEP")
@@ -109,7 +108,7 @@ def main() -> int:
     for number in (signal.SIGTERM, signal.SIGHUP):
         signal.signal(number, lambda *_: sys.exit(1))
     with tempfile.TemporaryDirectory(prefix="vrepl-serve-") as folder:
-        trial = Trial(folder, os.path.abspath(said.built), os.path.abspath(said.program), said.picture)
+        trial = Trial(folder, os.path.abspath(said.built), os.path.abspath(said.program or said.built), said.picture)
         rows = [{name: step for name, step in row.items() if not said.steps or name in said.steps} for row in steps()]
         asides = [aside(trial, row) for row in rows[1:] if row]
         try:

@@ -3,7 +3,7 @@
 
 usage: bench/live/measure.py [--program LIVE] [--seconds N] [--rate N] [PART ..]
 
-LIVE is what runs for `vrepl live`; the stand-in, tests/live_model.py, unless one is named. The parts are
+LIVE is what runs for `vrepl live`, the program of this repository unless one is named. The parts are
 
     alone     a feed's changes through LIVE by itself: all at once, and a hundred groups a request
     chain     through a server's log, record/feed --forever, serve/target and a second server, as fast as four clients write
@@ -258,7 +258,7 @@ PARTS = {"alone": alone, "chain": chain, "latency": latency, "memory": memory}
 
 def main() -> int:
     parser = argparse.ArgumentParser(prog="bench/live/measure.py", description=__doc__, formatter_class=argparse.RawDescriptionHelpFormatter)
-    parser.add_argument("--program", default=os.path.join(ROOT, "tests/live_model.py"), metavar="LIVE")
+    parser.add_argument("--program", default=os.path.join(ROOT, "vrepl"), metavar="LIVE")
     parser.add_argument("--seconds", type=float)
     parser.add_argument("--rate", type=float, default=100)
     parser.add_argument("parts", nargs="*", metavar="PART")
