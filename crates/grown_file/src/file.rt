@@ -117,21 +117,25 @@ impl<'w> GrownFile<'w> {
     }
 
     /// The bytes behind those that are taken of a file that looks so, with at most so many more than before.
-    fn bytes_of(
-        &self,
-        rt: &HostRuntime,
-        look: &Look,
-        more: u64,
-    ) -> Result<Vec<u8>, GrownFault>
+    fn bytes_of(&self, rt: &HostRuntime, look: &Look, more: u64) -> Result<Vec<u8>, GrownFault>
         requires { self.now.taken ≤ look.now.length }
         ensures { IfOk result (λ bytes. self.now.taken + length bytes.items ≤ look.now.length) }
     {
         if self.settled == Some(*look) && look.length <= self.read {
             return Ok(Vec::new(rt.alloc()));
         }
-        let end = self.read.max(self.taken).saturating_add(more).min(look.length);
+        let end = self
+            .read
+            .max(self.taken)
+            .saturating_add(more)
+            .min(look.length);
         let mut file = &self.file;
-        read_from(rt.alloc(), &mut file, self.taken, (end - self.taken) as usize)
+        read_from(
+            rt.alloc(),
+            &mut file,
+            self.taken,
+            (end - self.taken) as usize,
+        )
     }
 
     /// So many of the bytes that were given last are taken, all of them where these are fewer; the others are given again

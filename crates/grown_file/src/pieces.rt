@@ -23,12 +23,7 @@ impl Pieces {
     /// at most twice their memory. May wait for another thread that keeps a piece.
     ///
     /// An error is want of memory: nothing is kept.
-    pub fn keep<R: Wait>(
-        &self,
-        rt: &R,
-        bytes: Vec<u8>,
-        count: usize,
-    ) -> Result<&[u8], GrownFault>
+    pub fn keep<R: Wait>(&self, rt: &R, bytes: Vec<u8>, count: usize) -> Result<&[u8], GrownFault>
         ensures kept { IfOk result (λ kept. kept.now ≡ take count bytes.items) }
         ensures memory { IfErr result (λ fault. fault ≡ GrownFault.Memory) }
     {
