@@ -14,8 +14,8 @@ use crate::portions::Portions;
 use crate::streams::{gives_streams, stream_given, streams_given};
 use crate::untils::{gives_untils, untils_given};
 use crate::words::{
-    Check, Compact, Explain, Feed, Follow, Join, Live, Resume, Run, Save, Show, Status, Step, Tiles,
-    Transcribe, Vdiff, Words,
+    Check, Compact, Explain, Feed, Follow, Join, Live, Resume, Run, Save, Show, Status, Step,
+    Tiles, Transcribe, Vdiff, Words,
 };
 use clap::{ArgMatches, Command, Error};
 use std::alloc::{AllocError, Global};
