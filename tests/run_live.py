@@ -174,7 +174,7 @@ def cut_and_replaced(room, r):
     yield "and written anew it is read", session.ok("more")["streams"][0]["groups"] == 4 and is_told(session, told, run_rows(room, feeds(3) | {"lower": feeds(4)["lower"]}))
     os.rename(room.path("lower"), room.path("away"))
     stopped = session.ok("more")["streams"][0]["refused"]
-    yield "a name of nothing stops its stream", (stopped["number"], stopped["file"]) == (131, "lower")
+    yield "a name of nothing stops its stream", stopped["number"] == 131
     os.rename(room.path("away"), room.path("lower"))
     append(room, lower=feeds(5)["lower"][len(feeds(4)["lower"]):], upper=feeds(5)["upper"][len(feeds(3)["upper"]):])
     streams = session.ok("more")["streams"]
