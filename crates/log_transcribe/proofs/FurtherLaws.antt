@@ -44,7 +44,7 @@ use Rattle.log_transcribe.specs.Said.{reached_at, reached_in, to_end, events_sai
 use Rattle.log_transcribe.specs.Apart.{overlaps, IsApart}
 use Rattle.log_transcribe.specs.Behind.{Along, Going, going_to, changes_had, passed_far, moved, told_far, taken_far, group_behind, end_behind, groups_behind, log_behind, logs_behind, first_list, begun_by, begun, unsaid, along_of, behind_told, short_behind, bytes_behind}
 use Rattle.log_transcribe.specs.Further.{further, AreWhole, groups_further, IsFeedBehind}
-use Rattle.log_transcribe.proofs.FeedLaws.{FeedLaws, rising_both, canonical_by, of_course_given, of_tell_given, absent_at, not_filled}
+use Rattle.log_transcribe.proofs.FeedLaws.{FeedLaws, rising_both, canonical_by, of_course_given, of_tell_given, not_filled}
 use Rattle.log_transcribe.proofs.ApartLaws.{apart}
 use Rattle.log_transcribe.proofs.SaidLaws.{says_columns}
 
@@ -80,9 +80,11 @@ groups_on file s had (g ∷ groups) end a x e =
 
 both_on : (s : SourceTables) (had : List Stage) (one more : List PlacedValue) (a : Along) (x y : Going) → TellOn s had one a x → TellOn s had more x.1 y → TellOn s had (one ++ more) a (x.0 ++ y.0, y.1)
 both_on s had [] more a x y is rest = rw (← is) (let there = rw (← is) at rest in there)
-both_on s had (g ∷ one) more a x y (file, m, z, first, others, is) rest =
-    let there : TellOn s had more z.1 y = subst (λ (b : Going). TellOn s had more b.1 y) (sym is) rest in
-    (file, m, (z.0 ++ y.0, y.1), first, both_on s had one more m.1 z y others there, ap (λ (ms : List (List EventValue)). (ms, y.1)) (sym (append_assoc m.0 z.0 y.0) ∙ ap (λ (b : Going). b.0 ++ y.0) is))
+both_on s had (g ∷ one) more a x y o rest =
+    let m : Going = o.1 in
+    let z : Going = o.2 in
+    let there : TellOn s had more z.1 y = subst (λ (b : Going). TellOn s had more b.1 y) (sym o.5) rest in
+    (o.0, m, (z.0 ++ y.0, y.1), o.3, both_on s had one more m.1 z y o.4 there, ap (λ (ms : List (List EventValue)). (ms, y.1)) (sym (append_assoc m.0 z.0 y.0) ∙ ap (λ (b : Going). b.0 ++ y.0) o.5))
 
 taken_in : (file : ℕ) (s : SourceTables) (had : List Stage) (g : PlacedValue) (a : Along) (m : Going) → group_behind file s had g a ≡ Ok m → (x : Messages) × (taken_far file s had a.logs g a.far ≡ Ok x) × (going_to g.position x ≡ m)
 taken_in file s had g a m e =
@@ -91,10 +93,11 @@ taken_in file s had g a m e =
 
 on_reaches : (s : SourceTables) (had : List Stage) (groups : List PlacedValue) (a : Along) (x : Going) → TellOn s had groups a x → x.1.logs ≡ reached_by a.logs groups
 on_reaches s had [] a x is = ap (λ (b : Going). b.1.logs) (sym is)
-on_reaches s had (g ∷ groups) a x (file, m, y, first, others, is) =
-    let taken = taken_in file s had g a m first in
+on_reaches s had (g ∷ groups) a x o =
+    let m : Going = o.1 in
+    let taken = taken_in o.0 s had g a m o.3 in
     let at : m.1.logs ≡ g.position = ap (λ (b : Going). b.1.logs) (sym taken.2) in
-    ap (λ (b : Going). b.1.logs) (sym is) ∙ on_reaches s had groups m.1 y others ∙ ap (λ (r : List Interval). reached_by r groups) at
+    ap (λ (b : Going). b.1.logs) (sym o.5) ∙ on_reaches s had groups m.1 o.2 o.4 ∙ ap (λ (r : List Interval). reached_by r groups) at
 
 -- ---- files one behind another
 
@@ -203,67 +206,89 @@ module _ (laws : BehindLaws) (s : SourceTables) (right : IsSource s) (had : List
   further_more : (had : List Interval) (g : PlacedValue) (groups : List PlacedValue) → within_of g.position had ≡ false → moved had g ∷ further (union_of had g.position) groups ≡ further had (g ∷ groups)
   further_more had g groups e = sym (cond-false (within_of g.position had) (further had groups) (moved had g ∷ further (union_of had g.position) groups) e)
 
+  -- behind one that the feed has
+  passed_is : (g : PlacedValue) (far : Far) (m : Messages) → passed_far s had g far ≡ Ok m → ([], far) ≡ m
+  passed_is g far m e =
+      let nothing = given (of_changes (changes_had s had g.changes)) (λ _. Ok ([], far)) m e in
+      same_value ([], far) m nothing.2
+
+  behind_old : (past : PastEvents) (g : PlacedValue) (groups : List PlacedValue) (a : Along) (y : Going) → within_of g.position a.far.reached ≡ true → Sequels past groups (record { far = a.far; logs = g.position }) y → Sequels past (g ∷ groups) a y
+  behind_old past g groups a y inside rest =
+      let those : further a.far.reached groups ≡ further a.far.reached (g ∷ groups) = further_had a.far.reached g groups inside in
+      record {
+        told = subst (λ (gs : List PlacedValue). TellGroups s past (groups_read s (next_number s past) gs) y.0 y.1.far) those rest.told;
+        whole = rw inside rest.whole;
+        reached = rest.reached ∙ ap (reached_by a.far.reached) those;
+        said = rest.said ∙ ap (said_by s a.far.said) those;
+      }
+
+  -- behind one that it doesn't have
+  record News (past : PastEvents) (g : PlacedValue) (a : Along) (m : Messages) : Type 0 where
+    here : TellGroups s past (groups_read s (next_number s past) (moved a.far.reached g ∷ [])) m.0 m.1
+    reached : m.1.reached ≡ union_of a.far.reached g.position
+    said : m.1.said ≡ said_by s a.far.said (moved a.far.reached g ∷ [])
+    within : IsWithin g.position m.1.reached
+
+  news : (past : PastEvents) (g : PlacedValue) (a : Along) (m : Messages) → TellsSoFar s past a.far → IsCanonical g.position → within_of g.position a.far.reached ≡ false → group_told s (moved a.far.reached g) a.far ≡ Ok m → News past g a m
+  news past g a m t c more e =
+      let far : Far = a.far in
+      let rise : Rises far.reached (union_of far.reached g.position) = rises far.reached g.position t.reached c more in
+      let as_groups : groups_told s (moved far.reached g ∷ []) far ≡ Ok (m.0, m.1) = one_told (moved far.reached g) far m e in
+      let reach : ReachesSoFar s (moved far.reached g ∷ []) far m.1 = laws.base.reach s past (moved far.reached g ∷ []) far m.1 m.0 right t (rise, tt) as_groups in
+      record {
+        here = laws.base.told s past (moved far.reached g ∷ []) far m.1 m.0 right t (rise, tt) as_groups;
+        reached = reach.reached;
+        said = reach.said;
+        within = subst (λ (r : List Interval). IsWithin g.position r) (sym reach.reached) (laws.other far.reached g.position t.reached c);
+      }
+
+  behind_new : (past : PastEvents) (g : PlacedValue) (groups : List PlacedValue) (a : Along) (m : Messages) (y : Going) → within_of g.position a.far.reached ≡ false → overlaps a.far.reached a.logs g.position ≡ false → News past g a m
+      → Sequels (behind past m.0) groups (record { far = m.1; logs = g.position }) y → Sequels past (g ∷ groups) a (m.0 ++ y.0, y.1)
+  behind_new past g groups a m y more alone n rest =
+      let new : PlacedValue = moved a.far.reached g in
+      let all : List Interval = union_of a.far.reached g.position in
+      let mid : PastEvents = behind past m.0 in
+      let one : List GroupValue = groups_read s (next_number s past) (new ∷ []) in
+      let many : length (groups_of source mid) ≡ length (groups_of source past) + length one = ap length n.here.groups ∙ length-append (groups_of source past) one in
+      let those : new ∷ further all groups ≡ further a.far.reached (g ∷ groups) = further_more a.far.reached g groups more in
+      let read : one ++ groups_read s (next_number s mid) (further all groups) ≡ groups_read s (next_number s past) (further a.far.reached (g ∷ groups)) =
+      split_read (next_number s past) (next_number s mid) new (further all groups) (omega (arith, many)) ∙ ap (groups_read s (next_number s past)) those in
+      let rest_told : TellGroups s mid (groups_read s (next_number s mid) (further all groups)) y.0 y.1.far = subst (λ (r : List Interval). TellGroups s mid (groups_read s (next_number s mid) (further r groups)) y.0 y.1.far) n.reached rest.told in
+      record {
+        told = subst (λ (gs : List GroupValue). TellGroups s past gs (m.0 ++ y.0) y.1.far) read (both past one (groups_read s (next_number s mid) (further all groups)) m.0 y.0 m.1 y.1.far n.here rest_told);
+        whole = rw more (apart a.far.reached a.logs g.position alone, subst (λ (r : List Interval). AreWhole r g.position groups) n.reached rest.whole);
+        reached = rest.reached ∙ ap (λ (r : List Interval). reached_by r (further r groups)) n.reached ∙ ap (reached_by a.far.reached) those;
+        said = rest.said ∙ ap (λ (r : List Interval). said_by s m.1.said (further r groups)) n.reached ∙ ap (λ (b : Bool). said_by s b (further all groups)) n.said ∙ ap (said_by s a.far.said) those;
+      }
+
   pub sequels : (past : PastEvents) (transactions : List PlacedValue) (a : Along) (x : Going) → TellsSoFar s past a.far → IsCanonical a.logs → IsWithin a.logs a.far.reached → AreRising a.logs transactions → TellOn s had transactions a x → Sequels past transactions a x
-  sequels past [] a x t c within rising is = rw (← is) (record {
+  sequels past [] a x t c within rising is = subst (Sequels past [] a) is (record {
     told = subst (λ (gs : List GroupValue). TellGroups s past gs [] a.far) (sym (none_read (next_number s past))) (nothing_more past a.far t);
     whole = tt;
     reached = refl;
     said = refl;
   })
-  sequels past (g ∷ groups) a x t c within rising (file, m, y, first, others, is) =
-      let taken = taken_in file s had g a m first in
+  sequels past (g ∷ groups) a x t c within rising o =
+      let m : Going = o.1 in
+      let y : Going = o.2 in
+      let taken = taken_in o.0 s had g a m o.3 in
       let at : going_to g.position taken.0 ≡ m = taken.2 in
-      let others_at : TellOn s had groups (record { far = taken.0.1; logs = g.position }) y = subst (λ (b : Going). TellOn s had groups b.1 y) (sym at) others in
-      let is_all : (taken.0.0 ++ y.0, y.1) ≡ x = ap (λ (b : Going). (b.0 ++ y.0, y.1)) at ∙ is in
-      elim (cases_taken file a.logs g a.far taken.0 taken.1) [
-        | inl old ↦ passed past g groups a x taken.0 y t rising old.0 old.1 others_at is_all
-        | inr new ↦ told past g groups a x taken.0 y t rising new.0 new.1 new.2 others_at is_all
+      let is_all : (taken.0.0 ++ y.0, y.1) ≡ x = ap (λ (b : Going). (b.0 ++ y.0, y.1)) at ∙ o.5 in
+      elim (cases_taken o.0 a.logs g a.far taken.0 taken.1) [
+        | inl old ↦
+            let nothing : ([], a.far) ≡ taken.0 = passed_is g a.far taken.0 old.1 in
+            let to : going_to g.position ([], a.far) ≡ m = ap (going_to g.position) nothing ∙ at in
+            let there : TellOn s had groups (record { far = a.far; logs = g.position }) y = subst (λ (b : Going). TellOn s had groups b.1 y) (sym to) o.4 in
+            let inside : IsWithin g.position a.far.reached = (laws.within g.position a.far.reached rising.0.canonical t.reached).0 old.0 in
+            let rest : Sequels past groups (record { far = a.far; logs = g.position }) y = sequels past groups (record { far = a.far; logs = g.position }) y t rising.0.canonical inside rising.1 there in
+            subst (Sequels past (g ∷ groups) a) (ap (λ (b : Messages). (b.0 ++ y.0, y.1)) nothing ∙ is_all) (behind_old past g groups a y old.0 rest)
+        | inr new ↦
+            let n : News past g a taken.0 = news past g a taken.0 t rising.0.canonical new.0 new.2 in
+            let there : TellOn s had groups (record { far = taken.0.1; logs = g.position }) y = subst (λ (b : Going). TellOn s had groups b.1 y) (sym at) o.4 in
+            let rest : Sequels (behind past taken.0.0) groups (record { far = taken.0.1; logs = g.position }) y =
+            sequels (behind past taken.0.0) groups (record { far = taken.0.1; logs = g.position }) y n.here.tells rising.0.canonical n.within rising.1 there in
+            subst (Sequels past (g ∷ groups) a) is_all (behind_new past g groups a taken.0 y new.0 new.1 n rest)
       ]
-    where
-      passed : (past : PastEvents) (g : PlacedValue) (groups : List PlacedValue) (a : Along) (x : Going) (m : Messages) (y : Going) → TellsSoFar s past a.far → AreRising a.logs (g ∷ groups) → within_of g.position a.far.reached ≡ true → passed_far s had g a.far ≡ Ok m
-          → TellOn s had groups (record { far = m.1; logs = g.position }) y → (m.0 ++ y.0, y.1) ≡ x → Sequels past (g ∷ groups) a x
-      passed past g groups a x m y t rising inside e others is =
-          let far : Far = a.far in
-          let nothing = given (of_changes (changes_had s had g.changes)) (λ _. Ok ([], far)) m e in
-          let m_is : ([], far) ≡ m = same_value ([], far) m nothing.2 in
-          let others_there : TellOn s had groups (record { far = far; logs = g.position }) y = subst (λ (b : Messages). TellOn s had groups (record { far = b.1; logs = g.position }) y) (sym m_is) others in
-          let x_is : y ≡ x = ap (λ (b : Messages). (b.0 ++ y.0, y.1)) m_is ∙ is in
-          let within : IsWithin g.position far.reached = (laws.within g.position far.reached rising.0.canonical t.reached).0 inside in
-          let rest : Sequels past groups (record { far = far; logs = g.position }) y = sequels past groups (record { far = far; logs = g.position }) y t rising.0.canonical within rising.1 others_there in
-          let those : further far.reached groups ≡ further far.reached (g ∷ groups) = further_had far.reached g groups inside in
-          rw (← x_is, ← those) (record {
-            told = rest.told;
-            whole = rw inside rest.whole;
-            reached = rest.reached;
-            said = rest.said;
-          })
-
-      told : (past : PastEvents) (g : PlacedValue) (groups : List PlacedValue) (a : Along) (x : Going) (m : Messages) (y : Going) → TellsSoFar s past a.far → AreRising a.logs (g ∷ groups) → within_of g.position a.far.reached ≡ false → overlaps a.far.reached a.logs g.position ≡ false
-          → group_told s (moved a.far.reached g) a.far ≡ Ok m → TellOn s had groups (record { far = m.1; logs = g.position }) y → (m.0 ++ y.0, y.1) ≡ x → Sequels past (g ∷ groups) a x
-      told past g groups a x m y t rising more alone e others is =
-          let far : Far = a.far in
-          let new : PlacedValue = moved far.reached g in
-          let all : List Interval = union_of far.reached g.position in
-          let rise : Rises far.reached all = rises far.reached g.position t.reached rising.0.canonical more in
-          let as_groups : groups_told s (new ∷ []) far ≡ Ok (m.0, m.1) = one_told new far m e in
-          let here : TellGroups s past (groups_read s (next_number s past) (new ∷ [])) m.0 m.1 = laws.base.told s past (new ∷ []) far m.1 m.0 right t (rise, tt) as_groups in
-          let reach : ReachesSoFar s (new ∷ []) far m.1 = laws.base.reach s past (new ∷ []) far m.1 m.0 right t (rise, tt) as_groups in
-          let at : m.1.reached ≡ all = reach.reached in
-          let within : IsWithin g.position m.1.reached = subst (IsWithin g.position) (sym at) (laws.other far.reached g.position t.reached rising.0.canonical) in
-          let mid : PastEvents = behind past m.0 in
-          let rest : Sequels mid groups (record { far = m.1; logs = g.position }) y = sequels mid groups (record { far = m.1; logs = g.position }) y here.tells rising.0.canonical within rising.1 others in
-          let many : length (groups_of source mid) ≡ length (groups_of source past) + length (groups_read s (next_number s past) (new ∷ [])) = ap length here.groups ∙ length-append (groups_of source past) (groups_read s (next_number s past) (new ∷ [])) in
-          let those : new ∷ further all groups ≡ further far.reached (g ∷ groups) = further_more far.reached g groups more in
-          let read : groups_read s (next_number s past) (new ∷ []) ++ groups_read s (next_number s mid) (further all groups) ≡ groups_read s (next_number s past) (further far.reached (g ∷ groups)) =
-          split_read (next_number s past) (next_number s mid) new (further all groups) (omega (arith, many)) ∙ ap (groups_read s (next_number s past)) those in
-          let rest_told : TellGroups s mid (groups_read s (next_number s mid) (further all groups)) y.0 y.1.far = subst (λ (r : List Interval). TellGroups s mid (groups_read s (next_number s mid) (further r groups)) y.0 y.1.far) at rest.told in
-          rw (← is) (record {
-            told = subst (λ (gs : List GroupValue). TellGroups s past gs (m.0 ++ y.0) y.1.far) read
-                (both past (groups_read s (next_number s past) (new ∷ [])) (groups_read s (next_number s mid) (further all groups)) m.0 y.0 m.1 y.1.far here rest_told);
-            whole = rw more (apart far.reached a.logs g.position alone, subst (λ (r : List Interval). AreWhole r g.position groups) at rest.whole);
-            reached = rest.reached ∙ ap (λ (r : List Interval). reached_by r (further r groups)) at ∙ ap (reached_by far.reached) those;
-            said = rest.said ∙ ap (λ (r : List Interval). said_by s m.1.said (further r groups)) at ∙ ap (λ (b : Bool). said_by s b (further all groups)) reach.said ∙ ap (said_by s far.said) those;
-          })
 
 -- ---- what stands before them
 
@@ -290,17 +315,22 @@ opened source feed old e =
     record { few = ltb-true _ _ short.0; faultless = no_fault (first_fault source past) (events_of_feed feed).fault at.0; outside = at.1; groups = at.2 }
 
 -- its position is the last group's, or none
+last_at : (xs : List GroupValue) (x : GroupValue) → slice_get (xs ++ x ∷ []) (length xs) ≡ Some x
+last_at [] x = refl
+last_at (y ∷ xs) x = last_at xs x
+
 last_is : (xs : List GroupValue) (x : GroupValue) → slice_get (xs ++ x ∷ []) (length (xs ++ x ∷ []) - 1) ≡ Some x
-last_is [] x = refl
-last_is (y ∷ []) x = refl
-last_is (y ∷ (z ∷ xs)) x = last_is (z ∷ xs) x
+last_is xs x =
+    let many : length (xs ++ x ∷ []) ≡ length xs + 1 = length-append xs (x ∷ []) in
+    let place : length (xs ++ x ∷ []) - 1 ≡ length xs = omega (arith, many) in
+    ap (λ (i : ℕ). slice_get (xs ++ x ∷ []) i) place ∙ last_at xs x
 
 split_last : (x : GroupValue) (xs : List GroupValue) → (before : List GroupValue) × (end : GroupValue) × (x ∷ xs ≡ before ++ end ∷ [])
 split_last x [] = ([], x, refl)
 split_last x (y ∷ xs) = let rest = split_last y xs in (x ∷ rest.0, rest.1, ap (λ (gs : List GroupValue). x ∷ gs) rest.2)
 
 not_filled_at : (stage : Stage) → (stage ≡ Filled → ⊥) → (n place : ℕ) → stage_at (replicate n stage) place ≡ Filled → ⊥
-not_filled_at stage none zero place e = cc
+not_filled_at stage none zero place e = not_filled e
 not_filled_at stage none (suc n) zero e = none e
 not_filled_at stage none (suc n) (suc place) e = not_filled_at stage none n place e
 
@@ -316,7 +346,7 @@ module _ (laws : BehindLaws) (s : SourceTables) where
   past_of feed = reverse (events_of_feed feed).items
 
   no_events : (events_of_feed []).items ≡ []
-  no_events = let none : HaveEvents (written []) (events_in []) = laws.base.read [] tt (omega arith) in ap (λ (r : Reading EventValue FeedFault). r.items) none.are
+  no_events = let short : 0 < 2 ^ 64 = omega arith in let none : HaveEvents (written []) (events_in []) = laws.base.read [] tt short in ap (λ (r : Reading EventValue FeedFault). r.items) none.are
 
   seen_last : (feed : List ℕ) (old : List GroupValue) (reached : List Interval) → groups feed own ≡ Ok old → reached_in feed old ≡ Ok reached → seen own (past_of feed) ≡ reached
   seen_last [] [] reached e end = ap (λ (es : List EventValue). seen own (reverse es)) no_events ∙ same_value [] reached end
@@ -324,7 +354,7 @@ module _ (laws : BehindLaws) (s : SourceTables) where
   seen_last feed (x ∷ xs) reached e end =
       let split = split_last x xs in
       let cut = laws.cuts feed own split.0 split.1 (e ∙ ap (λ (gs : List GroupValue). Ok gs) split.2) in
-      let at : reached_in feed (x ∷ xs) ≡ Ok split.1.position = ap (λ (gs : List GroupValue). reached_in feed gs) split.2 ∙ ap (λ (o : Option GroupValue). reached_at feed o) (last_is split.0 split.1) in
+      let at : reached_in feed (x ∷ xs) ≡ Ok split.1.position = ap (λ (gs : List GroupValue). reached_in feed gs) split.2 ∙ ap (λ (o : Option GroupValue). reached_at o feed) (last_is split.0 split.1) in
       cut.cut.reached ∙ same_value split.1.position reached (sym at ∙ end)
 
   -- what the feed says is told so far

@@ -126,14 +126,14 @@ module _ (s : SourceTables) where
 
   -- ---- the messages of a feed
 
+  by_first : (r : Result (List Stage) FeedFault) (all front rest : List Stage → Result (List Stage) FeedFault) → ((mid : List Stage) → all mid ≡ front mid >>= rest) → r >>= all ≡ (r >>= front) >>= rest
+  by_first (Ok mid) all front rest same = same mid
+  by_first (Err f) all front rest same = refl
+
   split_events : (xs ys : List EventValue) (stages : List Stage) → events_said s (xs ++ ys) stages ≡ events_said s xs stages >>= λ next. events_said s ys next
   unfolding events_said
   split_events [] ys stages = refl
-  split_events (x ∷ xs) ys stages = by (event_said s x stages)
-    where
-      by : (r : Result (List Stage) FeedFault) → r >>= (λ mid. events_said s (xs ++ ys) mid) ≡ (r >>= λ mid. events_said s xs mid) >>= λ next. events_said s ys next
-      by (Ok mid) = split_events xs ys mid
-      by (Err f) = refl
+  split_events (x ∷ xs) ys stages = by_first (event_said s x stages) (λ mid. events_said s (xs ++ ys) mid) (λ mid. events_said s xs mid) (λ next. events_said s ys next) (split_events xs ys)
 
   then_said : (items : List EventValue) (fault : Option EventFault) (others : Reading EventValue FeedFault) (stages : List Stage) → reading_said s (events_then items fault others) stages
       ≡ (events_said s items stages >>= λ next. to_end (end_of_message fault) next) >>= λ next. reading_said s others next

@@ -44,13 +44,13 @@ abbrev pub feed_said : SourceTables → Stage → List ℕ → Result (List Stag
 feed_said s unsaid feed = reading_said s (events_of_feed feed) (replicate (length s.tables) unsaid)
 
 -- the position of the last group; an empty feed has none
-abbrev pub reached_at : List ℕ → Option GroupValue → Result (List Interval) FeedFault
-reached_at feed (Some g) = Ok g.position
-reached_at [] None = Ok []
-reached_at (b ∷ feed) None = Err (NoGroup 0)
+abbrev pub reached_at : Option GroupValue → List ℕ → Result (List Interval) FeedFault
+reached_at (Some g) feed = Ok g.position
+reached_at None [] = Ok []
+reached_at None (b ∷ feed) = Err (NoGroup 0)
 
 abbrev pub reached_in : List ℕ → List GroupValue → Result (List Interval) FeedFault
-reached_in feed all = reached_at feed (slice_get all (length all - 1))
+reached_in feed all = reached_at (slice_get all (length all - 1)) feed
 
 -- the position that a feed reaches
 unfoldable pub feed_end : SourceTables → List ℕ → Result (List Interval) FeedFault

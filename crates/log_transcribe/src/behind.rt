@@ -2,7 +2,7 @@
 
 ghost use Rattle.std.specs.Prelude.{◌≡◌, ℕ, List, map, option_map, IfOk};
 ghost use Rattle.list_laws.specs.Outcome.{GivesUnless};
-ghost use Rattle.gtid_set.specs.Position.{IsCanonical, union_of};
+ghost use Rattle.gtid_set.specs.Position.{union_of};
 ghost use Rattle.log_tables.specs.TableMap.{map_value};
 ghost use Rattle.log_groups.specs.Transaction.{done_value};
 ghost use Rattle.log_course.specs.Calls.{placed_value};
@@ -381,8 +381,7 @@ fn begun(
     reached: &GtidSet,
     logs: &[&[u8]],
 ) -> Result<GtidSet, LogsError>
-    ensures value { GivesUnless meant (λ set. set) result (begun reached.now (map (λ log. log.now) logs.now)) }
-    ensures canonical { IfOk result IsCanonical }
+    ensures { GivesUnless meant (λ set. set) result (begun reached.now (map (λ log. log.now) logs.now)) }
 {
     match logs.first() {
         None => {
@@ -539,6 +538,9 @@ pub fn transcribe_behind(
         Ok(first) => first,
         Err(error) => return Err(of_logs(error)),
     };
+    // (for their contracts: what is true of every set)
+    reached.intervals();
+    first.intervals();
     let had = match stages_of(alloc, source, unsaid(&first), feed) {
         Ok(had) => had,
         Err(fault) => return Err(of_feed(fault)),

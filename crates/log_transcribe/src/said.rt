@@ -3,7 +3,6 @@
 ghost use Rattle.std.specs.Prelude.{◌≡◌, map, option_map, replicate, slice_set, IfOk};
 ghost use Rattle.std.specs.Str.{bytes_eq};
 ghost use Rattle.list_laws.specs.Outcome.{GivesUnless};
-ghost use Rattle.gtid_set.specs.Position.{IsCanonical};
 ghost use Rattle.vevent.specs.EventValue as value;
 ghost use Rattle.vevent.specs.EventView.{event_value};
 ghost use Rattle.vevent.specs.Response.{response_of};
@@ -252,8 +251,7 @@ pub(crate) fn end_of(
     source: FeedSource<'_, '_>,
     feed: &[u8],
 ) -> Result<GtidSet, FeedFault>
-    ensures value { GivesUnless meant_of (λ set. set) result (feed_end (source_value source.entry) feed.now) }
-    ensures canonical { IfOk result IsCanonical }
+    ensures { GivesUnless meant_of (λ set. set) result (feed_end (source_value source.entry) feed.now) }
 {
     let groups = read_groups(alloc, feed, source.keyspace, source.shard)?;
     let reached = reached_in(alloc, feed, &groups)?;
