@@ -32,7 +32,7 @@ same_field column field e = by (bytes_eq column.name field.name) (column.type_nu
   where
     by : (x y : Bool) → bytes_eq column.name field.name ≡ x → (column.type_number == field.type_number) ≡ y → (x && y) ≡ true → column ≡ field
     by true true n t h = let name : column.name ≡ field.name = same_text column.name field.name (sym n) in let number : column.type_number ≡ field.type_number = same_number column.type_number field.type_number t in
-      ap (λ (n : List ℕ). record { name = n; type_number = column.type_number }) name ∙ ap (λ (k : ℕ). record { name = field.name; type_number = k }) number
+        ap (λ (n : List ℕ). record { name = n; type_number = column.type_number }) name ∙ ap (λ (k : ℕ). record { name = field.name; type_number = k }) number
     by true false n t h = cc
     by false y n t h = cc
 

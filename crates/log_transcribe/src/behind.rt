@@ -30,8 +30,8 @@ use log_events::{CrcTable, Events, log_of};
 use log_feed::{ChangeError, ChangeFault, FeedTable, GroupWriter, Stage, Trouble};
 use log_groups::{Done, GroupFault};
 use log_laws::{
-    courses_rise, ends_are_told, feeds_have_their_groups, messages_are_read,
-    transactions_are_told, transactions_reach,
+    courses_rise, ends_are_told, feeds_have_their_groups, messages_are_read, transactions_are_told,
+    transactions_reach,
 };
 use log_places::{PlaceError, PlaceFault, list_of};
 use log_tables::TableMap;
@@ -125,11 +125,7 @@ fn had_by(stage: Stage, table: usize) -> Result<(), ChangeError>
 }
 
 /// The same of a change that the feed tells.
-fn change_had(
-    source: FeedSource<'_, '_>,
-    had: &[Stage],
-    done: &Done<'_>,
-) -> Result<(), ChangeError>
+fn change_had(source: FeedSource<'_, '_>, had: &[Stage], done: &Done<'_>) -> Result<(), ChangeError>
     ensures { GivesUnless change_meant (λ x. x) result (change_had (source_value source.entry) had.now (done_value done.now)) }
 {
     match done {

@@ -214,7 +214,12 @@ impl<'t, 'w> Transcript<'t, 'w> {
     }
     /// The bytes with the message of the position that was reached, where it isn't said, behind them; `file` is the place
     /// behind the last file.
-    pub(crate) fn with_last(&self, alloc: Global, out: Vec<u8>, file: usize) -> Result<Vec<u8>, LogsError>
+    pub(crate) fn with_last(
+        &self,
+        alloc: Global,
+        out: Vec<u8>,
+        file: usize,
+    ) -> Result<Vec<u8>, LogsError>
         ensures { GivesUnless meant (λ all. all.items) result (of_tell file (last_with (last_told self.now.source self.now.far) out.items)) }
     {
         let mut out = out;

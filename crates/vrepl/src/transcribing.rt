@@ -12,10 +12,7 @@ use vrepl_transcribe::{TranscribeEnd, TranscribeInputs, Untranscribed, transcrib
 use vrepl_words::words::Transcribe;
 
 /// The inputs that the words name: the workflow's file, the logs' in their order, and the feed's, if it is named.
-fn inputs_named<'w>(
-    alloc: Global,
-    words: &Transcribe<'w>,
-) -> Result<Vec<InputName<'w>>, AllocError>
+fn inputs_named<'w>(alloc: Global, words: &Transcribe<'w>) -> Result<Vec<InputName<'w>>, AllocError>
     ensures { IfOk result (λ names. names.items ≡ inputs_named words.now) }
 {
     let mut names = run_inputs(alloc, words.workflow, &words.logs)?;
