@@ -1,10 +1,18 @@
 -- Further messages put behind bytes, one transaction and one file further.
-use Rattle.std.proofs.Common.{◌≡◌, ℕ, suc, ◌+◌, ◌-◌, ◌<◌, ◌≤◌, ◌^◌, Bool, true, false, nat_lt, List, [], ◌∷◌, ◌++◌, length, map, drop, get_or, Option, None, Some, Result, Ok, Err, refl, sym, ap, ◌∙◌, arith}
+use Rattle.std.proofs.Common.{◌≡◌, ℕ, suc, ◌+◌, ◌-◌, ◌<◌, ◌≤◌, ◌^◌, Bool, true, false, nat_lt, List, [], ◌∷◌, ◌++◌, length, map, drop, get_or, Option, None, Some, Result, Ok, Err, refl, sym, ap, subst, ◌∙◌, arith}
 use Rattle.std.proofs.lemmas.Bool.{cond-true, cond-false, lt-ltb, le-ltb}
 use Rattle.std.proofs.lemmas.List.{append-nil, at_drop_more, at_drop_all}
 use Rattle.list_laws.specs.Outcome.{◌>>=◌, Refuses, GivesUnless}
 use Rattle.item_readers.specs.Reading.{Reading}
 use Rattle.gtid_set.specs.declared.interval.Interval.{Interval}
+use Rattle.gtid_set.specs.Position.{within_of}
+use Rattle.log_places.specs.declared.fault.PlaceFault.TheVariants.{GoesBack}
+use Rattle.log_course.specs.declared.fault.CourseFault.TheVariants.{Place}
+use Rattle.log_feed.specs.declared.fault.ChangeFault.{ChangeFault}
+use Rattle.log_feed.specs.declared.fault.ChangeError as change_errors
+use Rattle.log_feed.specs.declared.fault.ChangeError.TheVariants as change_error
+use Rattle.log_feed.specs.Fault as changes
+use Rattle.log_laws.specs.declared.fault.TellFault.TheVariants as tell_fault
 use Rattle.vevent.specs.EventValue.{EventValue}
 use Rattle.log_course.specs.declared.fault.CourseFault.{CourseFault}
 use Rattle.log_course.specs.declared.fault.CourseError as course_errors
@@ -15,7 +23,7 @@ use Rattle.log_course.specs.Calls.{CourseValue, NextPlaced}
 use Rattle.log_laws.specs.declared.fault.TellFault.{TellFault}
 use Rattle.log_feed.specs.declared.table.Stage.{Stage}
 use Rattle.log_laws.specs.Source.{SourceTables}
-use Rattle.log_laws.specs.Transcript.{Far, Messages, last_told, written}
+use Rattle.log_laws.specs.Transcript.{Far, Messages, group_told, last_told, written}
 use Rattle.log_transcribe.specs.declared.fault.LogsFault.{LogsFault}
 use Rattle.log_transcribe.specs.declared.fault.LogsFault.TheVariants.{Course, Tell, TooLong}
 use Rattle.log_transcribe.specs.declared.fault.LogsError.{LogsError}
@@ -26,8 +34,9 @@ use Rattle.source_feed.specs.FaultNumber.{meant_of}
 use Rattle.log_transcribe.specs.declared.fault.BehindFault.{BehindFault}
 use Rattle.log_transcribe.specs.Fault.{meant, of_course, of_tell, of_feed, of_logs, behind_meant, feed_error, logs_error as error_of}
 use Rattle.log_transcribe.specs.Said.{feed_end, feed_said}
-use Rattle.log_transcribe.specs.Behind.{Along, Going, going_to, taken_far, group_behind, end_behind, groups_behind, log_behind, logs_behind, begun, unsaid, along_of, behind_told, short_behind, bytes_behind, behind_of_logs}
-use Rattle.log_transcribe.specs.Private.Bytes.{course_error_at, with_messages, last_with, bytes_told}
+use Rattle.log_transcribe.specs.Behind.{Along, Going, going_to, changes_had, passed_far, moved, told_far, taken_far, group_behind, end_behind, groups_behind, log_behind, logs_behind, begun, unsaid, along_of, behind_told, short_behind, bytes_behind, behind_of_logs}
+use Rattle.log_transcribe.specs.Private.Bytes.{course_error_at, change_error_at, with_messages, last_with, bytes_told}
+use Rattle.log_transcribe.specs.Apart.{overlaps}
 use Rattle.log_transcribe.specs.Private.Goes.{with_going, rest_told, GoesNext}
 use Rattle.log_transcribe.proofs.WritingLaws.{written_both, put_both, same_told, told_so}
 
@@ -53,6 +62,41 @@ wrong (Ok x) rest out fault e = cc
 
 module _ (file : ℕ) (s : SourceTables) (had : List Stage) where
   -- ---- a transaction
+
+  passed_put : (g : PlacedValue) (far : Far) (out : List ℕ) → changes_had s had g.changes ≡ Ok tt → with_messages (of_tell file (passed_far s had g far)) out ≡ Ok (out, far)
+  passed_put g far out e = rw e (ap (λ (b : List ℕ). Ok (b, far)) (append-nil out))
+
+  passed_unput : (g : PlacedValue) (far : Far) (out : List ℕ) (fault : ChangeFault) → changes_had s had g.changes ≡ Err fault → with_messages (of_tell file (passed_far s had g far)) out ≡ Err (Tell file (tell_fault.Change fault))
+  passed_unput g far out fault e = rw e refl
+
+  inside_is : (before : List Interval) (g : PlacedValue) (far : Far) → within_of g.position far.reached ≡ true → taken_far file s had before g far ≡ of_tell file (passed_far s had g far)
+  inside_is before g far e = cond-true (within_of g.position far.reached) (of_tell file (passed_far s had g far)) (told_far file s before g far) e
+
+  -- one that the feed has
+  pub taken-had : (before : List Interval) (g : PlacedValue) (far : Far) (out : List ℕ) → within_of g.position far.reached ≡ true → changes_had s had g.changes ≡ Ok tt → with_messages (taken_far file s had before g far) out ≡ Ok (out, far)
+  taken-had before g far out inside e = ap (λ (r : Result Messages LogsFault). with_messages r out) (inside_is before g far inside) ∙ passed_put g far out e
+
+  pub taken-unhad : (before : List Interval) (g : PlacedValue) (far : Far) (out : List ℕ) (error : change_errors.ChangeError) → within_of g.position far.reached ≡ true → Refuses changes.meant error (changes_had s had g.changes)
+      → Refuses meant (change_error_at file error) (with_messages (taken_far file s had before g far) out)
+  taken-unhad before g far out change_error.Memory inside e = tt
+  taken-unhad before g far out (change_error.Fault fault) inside e = ap (λ (r : Result Messages LogsFault). with_messages r out) (inside_is before g far inside) ∙ passed_unput g far out fault e
+
+  -- one that it doesn't have
+  pub taken-new : {U : Type 0} (before : List Interval) (g : PlacedValue) (far next_far : Far) (out next : List ℕ) (answer : Result U LogsError) → within_of g.position far.reached ≡ false
+      → GivesUnless meant (λ x. (next, next_far)) answer (with_messages (told_far file s before g far) out) → GivesUnless meant (λ x. (next, next_far)) answer (with_messages (taken_far file s had before g far) out)
+  taken-new before g far next_far out next answer beyond e =
+      subst (λ (r : Result Messages LogsFault). GivesUnless meant (λ x. (next, next_far)) answer (with_messages r out))
+      (sym (cond-false (within_of g.position far.reached) (of_tell file (passed_far s had g far)) (told_far file s before g far) beyond)) e
+
+  pub told-clash : (before : List Interval) (g : PlacedValue) (far : Far) (out : List ℕ) → overlaps far.reached before g.position ≡ true → with_messages (told_far file s before g far) out ≡ Err (Course file (Place GoesBack))
+  told-clash before g far out e =
+      ap (λ (r : Result Messages LogsFault). with_messages r out) (cond-true (overlaps far.reached before g.position) (Err (Course file (Place GoesBack))) (of_tell file (group_told s (moved far.reached g) far)) e)
+
+  pub told-apart : {U : Type 0} (before : List Interval) (g : PlacedValue) (far next_far : Far) (out next : List ℕ) (answer : Result U LogsError) → overlaps far.reached before g.position ≡ false
+      → GivesUnless meant (λ x. (next, next_far)) answer (with_messages (of_tell file (group_told s (moved far.reached g) far)) out) → GivesUnless meant (λ x. (next, next_far)) answer (with_messages (told_far file s before g far) out)
+  told-apart before g far next_far out next answer alone e =
+      subst (λ (r : Result Messages LogsFault). GivesUnless meant (λ x. (next, next_far)) answer (with_messages r out))
+      (sym (cond-false (overlaps far.reached before g.position) (Err (Course file (Place GoesBack))) (of_tell file (group_told s (moved far.reached g) far)) alone)) e
 
   pub group-went : (g : PlacedValue) (a : Along) (far : Far) (out next : List ℕ) → with_messages (taken_far file s had a.logs g a.far) out ≡ Ok (next, far) → with_going (group_behind file s had g a) out ≡ Ok (next, record { far = far; logs = g.position })
   group-went g a far out next e = by (taken_far file s had a.logs g a.far) e

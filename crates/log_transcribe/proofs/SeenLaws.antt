@@ -1,5 +1,5 @@
 -- What is seen of a feed, one event and one message further; and what of a list, one element further.
-use Rattle.std.proofs.Common.{◌≡◌, ℕ, suc, ◌+◌, ◌<◌, ◌≤◌, Bool, true, false, List, [], ◌∷◌, ◌++◌, length, map, drop, get_or, Option, None, Some, Result, Ok, Err, IfSome, refl, sym, ap, ◌∙◌, arith}
+use Rattle.std.proofs.Common.{◌≡◌, ◌≢◌, ℕ, suc, ◌+◌, ◌<◌, ◌≤◌, Bool, true, false, List, [], ◌∷◌, ◌++◌, length, map, drop, get_or, Option, None, Some, Result, Ok, Err, IfSome, refl, sym, ap, ◌∙◌, arith}
 use Rattle.std.proofs.lemmas.List.{at_drop_more, at_drop_all}
 use Rattle.std.specs.Str.{bytes_eq}
 use Rattle.list_laws.specs.Outcome.{◌>>=◌, Refuses, GivesUnless}
@@ -9,7 +9,7 @@ use Rattle.vevent.specs.EventValue.{EventValue}
 use Rattle.vevent.specs.Response.{response_of}
 use Rattle.vevent.specs.declared.fault.EventFault.{EventFault}
 use Rattle.source_feed.specs.declared.fault.FeedFault.{FeedFault}
-use Rattle.source_feed.specs.declared.fault.FeedFault.TheVariants.{Frame, Event}
+use Rattle.source_feed.specs.declared.fault.FeedFault.TheVariants.{Frame, Event, NoGroup}
 use Rattle.source_feed.specs.EventList.{end_of_message, fault_of_frame, events_then, events_in_messages}
 use Rattle.source_feed.specs.FaultNumber.{meant_of}
 use Rattle.log_groups.specs.Transaction.{DoneValue}
@@ -20,7 +20,7 @@ use Rattle.log_feed.specs.Fault as changes
 use Rattle.log_feed.specs.declared.table.Stage.{Stage}
 use Rattle.log_feed.specs.Table.{TableValue, table_from}
 use Rattle.log_laws.specs.Source.{SourceTables}
-use Rattle.log_transcribe.specs.Said.{event_said, events_said, to_end, reading_said}
+use Rattle.log_transcribe.specs.Said.{reached_at, event_said, events_said, to_end, reading_said}
 use Rattle.log_transcribe.specs.Behind.{change_had, changes_had}
 use Rattle.log_transcribe.specs.Private.Sees.{message_said, messages_said, SeesEvent, SeesMessage}
 
@@ -42,6 +42,12 @@ name-further view tables i name all table lt is other seen =
 
 pub name-nowhere : {T : Type 0} (view : T → TableValue) (tables : List T) (i : ℕ) (name : List ℕ) (all : Option (ℕ × TableValue)) → length tables ≤ i → table_from i name (map view (drop i tables)) ≡ all → None ≡ all
 name-nowhere view tables i name all le seen = sym (at_drop_all (λ ts. table_from i name (map view ts)) tables i le) ∙ seen
+
+-- ---- a feed without a group
+
+pub reached-none : (feed : List ℕ) → feed ≢ [] → reached_at None feed ≡ Err (NoGroup 0)
+reached-none [] not_empty = absurd (not_empty refl)
+reached-none (b ∷ feed) not_empty = refl
 
 -- ---- changes that the feed has
 

@@ -121,7 +121,13 @@ fn see_event(
 {
     match event {
         Event::Field(field) => see_field(source, stages, field),
-        _ => Ok(()),
+        Event::Gtid(_) => Ok(()),
+        Event::Begin => Ok(()),
+        Event::Commit => Ok(()),
+        Event::Rollback => Ok(()),
+        Event::Row(_) => Ok(()),
+        Event::Vgtid(_) => Ok(()),
+        Event::Ignored(_) => Ok(()),
     }
 }
 
