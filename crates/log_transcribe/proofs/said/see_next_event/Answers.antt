@@ -1,7 +1,7 @@
 use Rattle.std.proofs.Common.{Ok, Err}
 use Rattle.vevent.specs.EventView.{event_value}
 use Rattle.log_transcribe.specs.Transcript.{source_value}
-use Rattle.log_transcribe.proofs.SeenLaws.{event-seen, events-done, events-wrong}
+use Rattle.log_transcribe.proofs.SeenLaws.{event-seen}
 use Rattle.log_transcribe.proofs.said.see_next_event.Goals as goal
 
 pub returns-in-Ok : goal.returns-in-Ok

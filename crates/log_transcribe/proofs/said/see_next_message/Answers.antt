@@ -1,6 +1,6 @@
 use Rattle.std.proofs.Common.{Ok, Err}
 use Rattle.log_transcribe.specs.Transcript.{source_value}
-use Rattle.log_transcribe.proofs.SeenLaws.{message-seen, messages-done, messages-wrong}
+use Rattle.log_transcribe.proofs.SeenLaws.{message-seen}
 use Rattle.log_transcribe.proofs.said.see_next_message.Goals as goal
 
 pub returns-in-Ok : goal.returns-in-Ok
