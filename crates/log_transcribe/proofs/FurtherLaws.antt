@@ -1,6 +1,6 @@
 -- What logs give behind a feed has just the groups of the transactions that the feed didn't have.
-use Rattle.std.proofs.Common.{◌≡◌, ℕ, zero, suc, ◌+◌, ◌-◌, ◌<◌, ◌≤◌, ◌^◌, Bool, true, false, cond, nat_lt, List, [], ◌∷◌, ◌++◌, length, map, reverse, replicate, get_or, Option, None, Some, Result, Ok, Err, ◌⊎◌, refl, sym, ap, subst, ◌∙◌, inl, inr, arith, append_assoc, length-append}
-use Rattle.std.proofs.lemmas.Bool.{cases_Bool, cond-true, cond-false, ltb-true, false≢true}
+use Rattle.std.proofs.Common.{◌≡◌, ℕ, zero, suc, ◌+◌, ◌-◌, ◌<◌, ◌≤◌, ◌^◌, Bool, true, false, cond, nat_lt, List, [], ◌∷◌, ◌++◌, length, reverse, replicate, Option, None, Some, Ok, Err, ◌⊎◌, refl, sym, ap, subst, ◌∙◌, inl, inr, arith, append_assoc, length-append}
+use Rattle.std.proofs.lemmas.Bool.{cond-true, cond-false, ltb-true, false≢true}
 use Rattle.std.proofs.lemmas.List.{append-nil, reverse-append}
 use Rattle.std.proofs.lemmas.List.Concat.{flat_map-append}
 use Rattle.std.specs.Prelude.{if◌then◌else◌, IsTrue, ◌↔◌, slice_get}
@@ -27,21 +27,19 @@ use Rattle.log_places.specs.Place.{Rises}
 use Rattle.log_places.specs.declared.fault.PlaceFault.TheVariants.{GoesBack, Elsewhere}
 use Rattle.log_course.specs.declared.fault.CourseFault.TheVariants.{Place}
 use Rattle.log_feed.specs.declared.table.Stage.{Stage}
-use Rattle.log_feed.specs.declared.table.Stage.TheVariants.{Absent, Made, Filled}
-use Rattle.log_feed.specs.Table.{TableValue, stage_at, table_of}
-use Rattle.log_laws.specs.declared.fault.TellFault.{TellFault}
+use Rattle.log_feed.specs.declared.table.Stage.TheVariants.{Filled}
+use Rattle.log_feed.specs.Table.{stage_at}
 use Rattle.log_laws.specs.Source.{SourceTables, IsSource, source_of}
 use Rattle.log_laws.specs.Transcript.{Far, Messages, of_changes, group_told, groups_told, last_told, written}
 use Rattle.log_laws.specs.Read.{is_told, group_read, groups_read, last_read, reached_by, said_by}
 use Rattle.log_laws.specs.Far.{TellsSoFar, AreRising, SaysColumns}
 use Rattle.log_laws.specs.Laws.{events_in, behind, next_number, TellGroups, ReachesSoFar}
 use Rattle.log_laws.proofs.Steps.{given, given_if, given_unless, same_value}
-use Rattle.log_transcribe.specs.declared.fault.LogsFault.{LogsFault}
-use Rattle.log_transcribe.specs.declared.fault.LogsFault.TheVariants.{Course, Tell, TooLong}
+use Rattle.log_transcribe.specs.declared.fault.LogsFault.TheVariants.{Course, TooLong}
 use Rattle.log_transcribe.specs.Fault.{of_course, of_tell}
 use Rattle.log_transcribe.specs.Feed.{HaveTransactions}
-use Rattle.log_transcribe.specs.Said.{reached_at, reached_in, to_end, events_said, reading_said, feed_said, feed_end}
-use Rattle.log_transcribe.specs.Apart.{overlaps, IsApart}
+use Rattle.log_transcribe.specs.Said.{reached_at, reached_in, to_end, events_said, feed_said, feed_end}
+use Rattle.log_transcribe.specs.Apart.{overlaps}
 use Rattle.log_transcribe.specs.Behind.{Along, Going, going_to, changes_had, passed_far, moved, told_far, taken_far, group_behind, end_behind, groups_behind, log_behind, logs_behind, first_list, begun_by, begun, unsaid, along_of, behind_told, short_behind, bytes_behind}
 use Rattle.log_transcribe.specs.Further.{further, AreWhole, groups_further, IsFeedBehind}
 use Rattle.log_transcribe.proofs.FeedLaws.{FeedLaws, rising_both, canonical_by, of_course_given, of_tell_given, not_filled}

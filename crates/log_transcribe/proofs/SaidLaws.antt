@@ -1,22 +1,19 @@
 -- What a feed says of tables, one event further; and that it has the columns of those that had rows.
-use Rattle.std.proofs.Common.{◌≡◌, ◌≢◌, ℕ, zero, suc, ◌+◌, ◌-◌, ◌<◌, ◌≤◌, Bool, true, false, cond, List, [], ◌∷◌, ◌++◌, length, map, reverse, replicate, set, get_or, Option, None, Some, Result, Ok, Err, refl, sym, ap, subst, ◌∙◌, inl, inr, arith, append_assoc}
+use Rattle.std.proofs.Common.{◌≡◌, ◌≢◌, ℕ, ◌+◌, ◌-◌, ◌<◌, ◌≤◌, Bool, true, false, cond, List, [], ◌∷◌, ◌++◌, map, reverse, set, Option, None, Some, Ok, Err, refl, sym, ap, subst, ◌∙◌, inl, inr, arith}
 use Rattle.std.proofs.lemmas.Bool.{cases_Bool, cases_eq, cond-true, cond-false, false≢true}
 use Rattle.std.proofs.lemmas.Slice.Eq.{bytes_eq-Decides}
-use mathlib.Core.List.{reverse-cons}
-use Rattle.std.specs.Prelude.{◌&&◌, ◌==◌, if◌then◌else◌, IsTrue}
+use Rattle.std.specs.Prelude.{◌&&◌, ◌==◌, if◌then◌else◌}
 use Rattle.std.specs.Str.{bytes_eq}
-use Rattle.std.specs.Cmp.Lexicographic.{pointwise, same_text}
-use Rattle.list_laws.specs.Outcome.{◌>>=◌, Refuses, GivesUnless}
-use Rattle.item_readers.specs.Reading.{Reading}
+use Rattle.std.specs.Cmp.Lexicographic.{same_text}
+use Rattle.list_laws.specs.Outcome.{◌>>=◌}
 use Rattle.row_view.specs.FieldValue.{FieldValue}
 use Rattle.vevent.specs.EventValue.{EventValue, Field}
-use Rattle.source_feed.specs.declared.fault.FeedFault.{FeedFault}
 use Rattle.source_feed.specs.declared.fault.FeedFault.TheVariants.{FieldsDiffer}
 use Rattle.source_feed.specs.Planned.{same_column, same_columns}
 use Rattle.source_feed.specs.PastEvents.{PastEvents, last_field}
 use Rattle.source_feed.specs.SourceValue.{SourceValue, table_in_source}
 use Rattle.log_feed.specs.declared.table.Stage.{Stage}
-use Rattle.log_feed.specs.declared.table.Stage.TheVariants.{Absent, Filled}
+use Rattle.log_feed.specs.declared.table.Stage.TheVariants.{Filled}
 use Rattle.log_feed.specs.Table.{TableValue, field_of, table_of, stage_at}
 use Rattle.log_laws.specs.Source.{SourceTables, source_of}
 use Rattle.log_laws.specs.Far.{SaysColumns}

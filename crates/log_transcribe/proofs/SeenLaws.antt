@@ -3,7 +3,7 @@ use Rattle.std.proofs.Common.{◌≡◌, ◌≢◌, ℕ, suc, ◌+◌, ◌<◌, 
 use Rattle.std.proofs.lemmas.List.{at_drop_more, at_drop_all}
 use Rattle.std.specs.Str.{bytes_eq}
 use Rattle.list_laws.specs.Outcome.{◌>>=◌, Refuses, GivesUnless}
-use Rattle.item_readers.specs.Reading.{Reading, Next}
+use Rattle.item_readers.specs.Reading.{Reading}
 use Rattle.proto_wire.specs.declared.fault.FrameFault.{FrameFault}
 use Rattle.vevent.specs.EventValue.{EventValue}
 use Rattle.vevent.specs.Response.{response_of}
@@ -16,7 +16,7 @@ use Rattle.log_groups.specs.Transaction.{DoneValue}
 use Rattle.log_feed.specs.declared.fault.ChangeFault.{ChangeFault}
 use Rattle.log_feed.specs.declared.fault.ChangeError.{ChangeError}
 use Rattle.log_feed.specs.declared.fault.ChangeError.TheVariants as change_error
-use Rattle.log_feed.specs.Fault as changes
+use Rattle.log_feed.specs.Fault as change_fault
 use Rattle.log_feed.specs.declared.table.Stage.{Stage}
 use Rattle.log_feed.specs.Table.{TableValue, table_from}
 use Rattle.log_laws.specs.Source.{SourceTables}
@@ -68,7 +68,7 @@ pub had-on : {D : Type 0} (view : D → DoneValue) (s : SourceTables) (had : Lis
 had-on view s had changes i all d lt e seen = had_further s had (view (get_or changes i d)) (map view (drop (i + 1) changes)) all e (sym (at_drop_more (λ ds. changes_had s had (map view ds)) changes i d lt) ∙ seen)
 
 pub had-refused : {D : Type 0} (view : D → DoneValue) (s : SourceTables) (had : List Stage) (changes : List D) (i : ℕ) (all : Result (Unit {0}) ChangeFault) (d : D) (error : ChangeError) → i < length changes
-    → Refuses changes.meant error (change_had s had (view (get_or changes i d))) → changes_had s had (map view (drop i changes)) ≡ all → Refuses changes.meant error all
+    → Refuses change_fault.meant error (change_had s had (view (get_or changes i d))) → changes_had s had (map view (drop i changes)) ≡ all → Refuses change_fault.meant error all
 had-refused view s had changes i all d change_error.Memory lt e seen = tt
 had-refused view s had changes i all d (change_error.Fault fault) lt e seen = had_wrong s had (view (get_or changes i d)) (map view (drop (i + 1) changes)) fault all e (sym (at_drop_more (λ ds. changes_had s had (map view ds)) changes i d lt) ∙ seen)
 
