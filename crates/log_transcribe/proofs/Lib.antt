@@ -4,3 +4,4 @@ pub mod GoingLaws
 pub mod ApartLaws
 pub mod SaidLaws
 pub mod SeenLaws
+pub mod FurtherLaws
