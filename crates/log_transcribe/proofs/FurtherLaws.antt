@@ -215,7 +215,7 @@ module _ (laws : BehindLaws) (s : SourceTables) (right : IsSource s) (had : List
       let those : further a.far.reached groups ≡ further a.far.reached (g ∷ groups) = further_had a.far.reached g groups inside in
       record {
         told = subst (λ (gs : List PlacedValue). TellGroups s past (groups_read s (next_number s past) gs) y.0 y.1.far) those rest.told;
-        whole = rw inside rest.whole;
+        whole = inl (inside, rest.whole);
         reached = rest.reached ∙ ap (reached_by a.far.reached) those;
         said = rest.said ∙ ap (said_by s a.far.said) those;
       }
@@ -254,7 +254,7 @@ module _ (laws : BehindLaws) (s : SourceTables) (right : IsSource s) (had : List
       let rest_told : TellGroups s mid (groups_read s (next_number s mid) (further all groups)) y.0 y.1.far = subst (λ (r : List Interval). TellGroups s mid (groups_read s (next_number s mid) (further r groups)) y.0 y.1.far) n.reached rest.told in
       record {
         told = subst (λ (gs : List GroupValue). TellGroups s past gs (m.0 ++ y.0) y.1.far) read (both past one (groups_read s (next_number s mid) (further all groups)) m.0 y.0 m.1 y.1.far n.here rest_told);
-        whole = rw more (apart a.far.reached a.logs g.position alone, subst (λ (r : List Interval). AreWhole r g.position groups) n.reached rest.whole);
+        whole = inr (more, apart a.far.reached a.logs g.position alone, subst (λ (r : List Interval). AreWhole r g.position groups) n.reached rest.whole);
         reached = rest.reached ∙ ap (λ (r : List Interval). reached_by r (further r groups)) n.reached ∙ ap (reached_by a.far.reached) those;
         said = rest.said ∙ ap (λ (r : List Interval). said_by s m.1.said (further r groups)) n.reached ∙ ap (λ (b : Bool). said_by s b (further all groups)) n.said ∙ ap (said_by s a.far.said) those;
       }

@@ -1,6 +1,6 @@
 -- What the bytes are that logs give behind a feed: with them it has its groups, and behind these just the logs' transactions
 -- that it didn't have (this profile).
-use Rattle.std.specs.Prelude.{◌≡◌, ℕ, ◌+◌, true, List, [], ◌∷◌, ◌++◌, length, Ok, if◌then◌else◌}
+use Rattle.std.specs.Prelude.{◌≡◌, ◌⊎◌, ℕ, ◌+◌, true, false, List, [], ◌∷◌, ◌++◌, length, Ok, if◌then◌else◌}
 use Rattle.gtid_set.specs.declared.interval.Interval.{Interval}
 use Rattle.gtid_set.specs.Position.{IsWithin, within_of, union_of}
 use Rattle.source_feed.specs.GroupValue.{GroupValue}
@@ -23,7 +23,8 @@ further had (g ∷ groups) = if within_of g.position had then further had groups
 abbrev pub AreWhole : List Interval → List Interval → List PlacedValue → Type 0
 AreWhole had before [] = Unit {0}
 AreWhole had before (g ∷ groups) =
-    if within_of g.position had then AreWhole had g.position groups else IsApart had before g.position × AreWhole (union_of had g.position) g.position groups
+    ((within_of g.position had ≡ true) × AreWhole had g.position groups)
+    ⊎ ((within_of g.position had ≡ false) × IsApart had before g.position × AreWhole (union_of had g.position) g.position groups)
 
 -- the groups that come behind others, as many as these, which reach this position
 abbrev pub groups_further : SourceTables → ℕ → List Interval → List PlacedValue → List GroupValue

@@ -199,7 +199,7 @@ impl<'t, 'w> Transcript<'t, 'w> {
         before: &GtidSet,
         group: PlacedGroup<'_>,
     ) -> Result<(), LogsError>
-        requires { self.old.source ≡ source_value source.entry }
+        requires { self.old.source ≡ source_value source }
         ensures told { GivesUnless meant (λ x. (out.new.items, self.new.far)) result (with_messages (taken_far file self.old.source had.now before.now (placed_value group.entry) self.old.far) out.old.items) }
         ensures source { self.new.source ≡ self.old.source }
     {
@@ -443,7 +443,7 @@ fn written_behind(
     sequel: Sequel<'_, '_>,
     logs: &[&[u8]],
 ) -> Result<Vec<u8>, LogsError>
-    ensures { GivesUnless meant (λ more. more.items) result (bytes_told (behind_told sequel.source sequel.had sequel.along (map (λ log. log.now) logs.now))) }
+    ensures { GivesUnless meant (λ more. more.items) result (bytes_told (behind_told sequel.entry.source sequel.entry.had sequel.entry.along (map (λ log. log.now) logs.now))) }
 {
     let mut sequel = sequel;
     let mut out = Vec::new(alloc);
@@ -461,7 +461,7 @@ fn bytes_behind(
     sequel: Sequel<'_, '_>,
     logs: &[&[u8]],
 ) -> Result<Vec<u8>, LogsError>
-    ensures { GivesUnless meant (λ more. more.items) result (bytes_behind sequel.source feed.now sequel.had sequel.along (map (λ log. log.now) logs.now)) }
+    ensures { GivesUnless meant (λ more. more.items) result (bytes_behind sequel.entry.source feed.now sequel.entry.had sequel.entry.along (map (λ log. log.now) logs.now)) }
 {
     let more = match written_behind(alloc, table, sequel, logs) {
         Ok(more) => more,
