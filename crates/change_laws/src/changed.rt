@@ -1,0 +1,13 @@
+//! Which keys have changed since a board was told.
+
+use pk_copy::Key;
+use std::collections::BTreeSet;
+
+/// Which keys have changed since a board was told.
+#[derive(Drop)]
+pub enum Changed {
+    /// Nothing was told: all rows are new.
+    All,
+    /// These keys were touched, by rising key: what stands there may be as it was.
+    Touched(BTreeSet<Key>),
+}

@@ -1,0 +1,4 @@
+pub mod KeyLaws
+pub mod TouchedLaws
+pub mod LiveLaws
+pub mod MovingLaws

@@ -1,0 +1,78 @@
+-- A board that goes on with its feeds, and what was told of it (this profile).
+use Rattle.std.specs.Prelude.{◌≡◌, ◌↔◌, ℕ, Bool, true, List, [], Option, None, Some, Result, Ok, IfSome, length, slice_get}
+use Rattle.std.specs.List.{list_any}
+use Rattle.std.specs.Option.{option_map_or}
+use Rattle.std.specs.Ordering.{eq_by_cmp}
+use Rattle.pk_copy.specs.KeyOrder.{key_cmp}
+use Rattle.pk_copy.specs.KeyValue.{KeyValue}
+use Rattle.stream_core.specs.declared.phase.Phase.TheVariants.{Running}
+use Rattle.stream_core.specs.Standing.{phase_of}
+use Rattle.source_feed.specs.Planned.{FeedValue, groups_under}
+use Rattle.board_laws.specs.declared.step_refusal.StepRefusal.{StepRefusal}
+use Rattle.board_laws.specs.FedBoards.{Fed}
+use Rattle.board_laws.specs.Lawful.{standing_of, IsLawful}
+use Rattle.board_laws.specs.Meaning.{State, TargetRows, Meaning}
+use Rattle.board_laws.specs.Sources.{ShowAll}
+use Rattle.apply_core.specs.Ended.{StreamHasEnded}
+use Rattle.change_laws.specs.declared.changed.Changed.{Changed}
+use Rattle.change_laws.specs.declared.changed.Changed.TheVariants.{All, Touched}
+use Rattle.change_laws.specs.Since.{HaveGoneOn, IsTouchedSince}
+use Rattle.live_core.specs.Source.{IsOfSource}
+use Rattle.live_core.specs.declared.source.Source.{Source}
+
+-- a board with its feeds, the bytes of each feed so far, and the board that was told last, if one was
+pub record LiveValue : Type 0 where
+  pub fed : Fed
+  pub bytes : List (List ℕ)
+  pub told : Option Meaning
+
+-- ---- what is true of every such board
+
+-- each feed has the groups of its bytes
+abbrev pub AreOfBytes : List FeedValue → List (List ℕ) → Type 0
+AreOfBytes feeds all = (s : ℕ) (feed : FeedValue) (bytes : List ℕ) → slice_get feeds s ≡ Some feed → slice_get all s ≡ Some bytes → groups_under bytes feed.plan ≡ Ok feed.groups
+
+-- the same by their sources
+abbrev pub AreOfSources : List FeedValue → List Source → Type 0
+AreOfSources feeds sources = (s : ℕ) (feed : FeedValue) (source : Source) → slice_get feeds s ≡ Some feed → slice_get sources s ≡ Some source → IsOfSource feed source
+
+-- all tables of each stream are copied
+abbrev pub AreRunning : Meaning → Type 0
+AreRunning board = (s : ℕ) (state : State) → slice_get board.streams s ≡ Some state → phase_of (standing_of state) ≡ Running
+
+-- the streams have gone on since a board was told
+pub record HasGoneOnFrom (now told : Meaning) : Type 0 where
+  pub lawful : IsLawful told
+  pub gone : HaveGoneOn told now
+
+-- It shows its sources: as a board with its feeds does, and each feed has the groups of its bytes. All tables are copied.
+pub record IsLive (live : LiveValue) : Type 0 where
+  pub shows : ShowAll live.fed.feeds live.fed.board
+  pub count : length live.bytes ≡ length live.fed.feeds
+  pub bytes : AreOfBytes live.fed.feeds live.bytes
+  pub running : AreRunning live.fed.board
+
+-- ---- what is told
+
+-- the rows that were told: none where nothing was
+abbrev pub told_rows : Option Meaning → TargetRows
+told_rows told = option_map_or (λ (board : Meaning). board.rows) told []
+
+-- they are just the keys that were touched since a board was told; and all rows where none was
+abbrev pub IsToldExactly : Option Meaning → Meaning → Changed → Type 0
+IsToldExactly None board All = Unit {0}
+IsToldExactly None board (Touched keys) = ⊥
+IsToldExactly (Some told) board All = ⊥
+IsToldExactly (Some told) board (Touched keys) = (key : KeyValue) → (list_any (eq_by_cmp key_cmp key) keys.keys ≡ true) ↔ IsTouchedSince told board key
+
+-- ---- what a move answers
+
+-- a stream that answers so has come to its feed's end; whether one that is refused has isn't said
+abbrev pub HasEndedAs : List FeedValue → Meaning → ℕ → Option (Result Bool StepRefusal) → Type 0
+HasEndedAs feeds board s (Some (Ok true)) = StreamHasEnded feeds s board
+HasEndedAs feeds board s answer = Unit {0}
+
+-- of each stream the answer
+pub record HaveEndedAs (answers : List (Result Bool StepRefusal)) (feeds : List FeedValue) (board : Meaning) : Type 0 where
+  pub count : length answers ≡ length feeds
+  pub each : (s : ℕ) → HasEndedAs feeds board s (slice_get answers s)

@@ -1,0 +1,3 @@
+-- What serves the crate's own code alone.
+pub mod Keys
+pub mod Kept

@@ -1,0 +1,12 @@
+//! A board that goes on with its feeds: they grow, its streams read and apply what is new, and who follows it is told
+//! what changed. At every time its streams show their sources.
+#![tactic(auto)]
+
+mod live;
+mod moving;
+mod source;
+mod told;
+mod touched;
+
+pub use live::Live;
+pub use source::Source;
