@@ -2,11 +2,14 @@
 //! what changed. At every time its streams show their sources.
 #![tactic(auto)]
 
+mod growing;
+mod laws;
 mod live;
 mod moving;
 mod source;
 mod told;
 mod touched;
 
+pub use laws::boards_at_their_ends_run;
 pub use live::Live;
 pub use source::Source;

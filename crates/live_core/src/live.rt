@@ -1,17 +1,19 @@
 //! A board that goes on with its feeds.
 
-ghost use Rattle.std.specs.Prelude.{◌≡◌, None, Some, IfOk, OnErr, OnOk, length, map};
+ghost use Rattle.std.specs.Prelude.{◌≡◌, None, Some, IfOk, IfErr, OnErr, OnOk, length, map, slice_get};
+ghost use Rattle.std.specs.Option.{option_map_or};
 ghost use Rattle.change_laws.specs.Changes.{LeadOn, changes_in};
 ghost use Rattle.change_laws.specs.Since.{HasMoved};
 ghost use Rattle.checkpoint_laws.specs.Written.{checkpoint_of};
-ghost use Rattle.live_core.specs.Live.{AreOfSources, AreRunning, HaveEndedAs, IsLive, IsToldExactly, told_rows};
+ghost use Rattle.live_core.specs.Live.{AreApplied, AreCounted, AreOfSources, AreRunning, HaveEndedAs, IsLive, IsRefusedPiece, IsToldExactly, TakesPiece, told_rows};
 ghost use Rattle.live_core.specs.Source.{bytes_of};
 
+use crate::growing::grow_in;
 use crate::moving::move_all;
 use crate::source::Source;
-use crate::told::Told;
+use crate::told::{Told, applied_on};
 use crate::touched::touched_since;
-use apply_core::{FedBoard, StepRefusal, save};
+use apply_core::{FedBoard, GrowRefusal, StepRefusal, save};
 use change_laws::{Changed, changes_lead_on, streams_go_on};
 use std::alloc::{AllocError, Global};
 use std::marker::Model;
@@ -72,6 +74,42 @@ impl<'h> Live<'h> {
         &self.fed
     }
 
+    /// How many bytes of the feed of stream `s` are taken; 0 where there is no such stream. Takes no memory.
+    pub fn taken(&self, s: u8) -> u64
+        ensures taken { result ≡ option_map_or (λ bytes. length bytes) (slice_get self.now.bytes s) 0 }
+        ensures live { IsLive self.now }
+    {
+        self.is_live();
+        match self.sources.get(s as usize) {
+            None => 0,
+            Some(source) => source.taken(),
+        }
+    }
+
+    /// The feed of stream `s` grows by a further piece of its bytes, which is lent as long as the feed's groups: how many
+    /// bytes are taken, those up to the last message behind which no transaction is open. The rest is given again with more
+    /// behind it. No stream reads or applies a group by it.
+    ///
+    /// Refused 115 where there is no such stream, else as `FeedEnd::grow`; then all is as it was.
+    pub fn grow(
+        &mut self,
+        alloc: Global,
+        s: u8,
+        piece: &'h [u8],
+    ) -> Result<u32, GrowRefusal>
+        // The bytes that are taken stand behind those of the stream's feed, which has their groups.
+        ensures taken { IfOk result (λ taken. TakesPiece s piece.now taken self.old.fed.feeds self.new.fed.feeds self.old.bytes self.new.bytes) }
+        ensures refused { IfErr result (IsRefusedPiece s piece.now self.old.fed.feeds self.old.bytes) }
+        ensures left { OnErr result (self.new ≡ self.old) }
+        ensures board { self.new.fed.board ≡ self.old.fed.board }
+        ensures told { self.new.told ≡ self.old.told }
+        ensures live { IsLive self.new }
+    {
+        let taken = grow_in(alloc, &mut self.fed, &mut self.sources, s, piece);
+        self.is_live();
+        taken
+    }
+
     /// Each stream applies groups of its feed, stream after stream: up to `most` of them, and to the feed's end where there
     /// are fewer. The answer is of each stream whether it has come to its feed's end, or why it was refused: what was applied
     /// until then stays. An error is want of memory for the answer; then nothing is done.
@@ -119,6 +157,44 @@ impl<'h> Live<'h> {
         }
     }
 
+    /// How many keys have changed since the last board that was told: of all that `changed` gives. An error is want of
+    /// memory.
+    pub fn count(&self, alloc: Global) -> Result<u64, AllocError>
+        ensures counted { IfOk result (λ count. AreCounted count self.now.told self.now.fed.board) }
+        ensures live { IsLive self.now }
+    {
+        match self.changed(alloc)? {
+            Changed::All => Ok(self.fed.board().target().len() as u64),
+            Changed::Touched(keys) => Ok(keys.len() as u64),
+        }
+    }
+
+    /// What `tell_as` keeps of the board as it stands: of each stream how many groups are applied. An error is want of
+    /// memory.
+    pub fn to_tell(&self, alloc: Global) -> Result<Vec<u32>, AllocError>
+        ensures applied { IfOk result (λ applied. AreApplied applied.items self.now.fed.board) }
+        ensures live { IsLive self.now }
+    {
+        self.is_live();
+        applied_on(alloc, self.fed.board())
+    }
+
+    /// The board is told as it stands, by what `to_tell` gave of it. Takes no memory: so an answer can be made and written
+    /// first, and then what was in it is told.
+    pub fn tell_as(&mut self, applied: Vec<u32>)
+        requires { AreApplied applied.items self.old.fed.board }
+        ensures told { self.new.told ≡ Some self.new.fed.board }
+        ensures fed { self.new.fed ≡ self.old.fed }
+        ensures bytes { self.new.bytes ≡ self.old.bytes }
+        ensures live { IsLive self.new }
+    {
+        streams_go_on();
+        self.fed.is_fed();
+        let told = Told::of(applied, self.fed.board());
+        let _ = replace(&mut self.told, Some(told));
+        self.is_live();
+    }
+
     /// The board is told as it stands. An error is want of memory, and then what was told before still is.
     pub fn tell(&mut self, alloc: Global) -> Result<(), AllocError>
         ensures told { OnOk result (self.new.told ≡ Some self.new.fed.board) }
@@ -127,12 +203,8 @@ impl<'h> Live<'h> {
         ensures bytes { self.new.bytes ≡ self.old.bytes }
         ensures live { IsLive self.new }
     {
-        streams_go_on();
-        self.is_live();
-        self.fed.is_fed();
-        let told = Told::of(alloc, self.fed.board())?;
-        let _ = replace(&mut self.told, Some(told));
-        self.is_live();
+        let applied = self.to_tell(alloc)?;
+        self.tell_as(applied);
         Ok(())
     }
 

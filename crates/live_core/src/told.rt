@@ -1,7 +1,7 @@
 //! The board that was told last.
 
 ghost use Rattle.std.specs.Prelude.{◌≡◌, ◌<◌, IfOk, IsSomeAnd, length, slice_get};
-ghost use Rattle.live_core.specs.Private.Keys.{AreApplied};
+ghost use Rattle.live_core.specs.Live.{AreApplied};
 
 use apply_core::Board;
 use std::alloc::{AllocError, Global};
@@ -27,7 +27,7 @@ impl<'h> Model for Told<'h> {
 }
 
 /// How many groups each stream of a board has applied.
-fn applied_on(alloc: Global, board: &Board<'_>) -> Result<Vec<u32>, AllocError>
+pub(crate) fn applied_on(alloc: Global, board: &Board<'_>) -> Result<Vec<u32>, AllocError>
     ensures { IfOk result (λ applied. AreApplied applied.items board.now) }
 {
     // (for the contract: how many streams there are)
@@ -43,15 +43,15 @@ fn applied_on(alloc: Global, board: &Board<'_>) -> Result<Vec<u32>, AllocError>
 }
 
 impl<'h> Told<'h> {
-    /// The board as it stands. An error is want of memory.
-    pub(crate) fn of(alloc: Global, board: &Board<'h>) -> Result<Told<'h>, AllocError>
-        ensures { IfOk result (λ told. told ≡ board.now) }
+    /// The board as it stands, with the numbers of its streams' applied groups.
+    pub(crate) fn of(applied: Vec<u32>, board: &Board<'h>) -> Told<'h>
+        requires { AreApplied applied.items board.now }
+        ensures { result ≡ board.now }
     {
-        let applied = applied_on(alloc, board)?;
-        Ok(Told {
+        Told {
             applied,
             board: Snapshot::of(board),
-        })
+        }
     }
 
     /// How many groups stream `s` had applied.
