@@ -1,4 +1,5 @@
 pub mod KeyLaws
 pub mod TouchedLaws
+pub mod GrowingLaws
 pub mod LiveLaws
 pub mod MovingLaws

@@ -1,16 +1,19 @@
 -- A board that goes on, and what is true of it.
-use Rattle.std.proofs.Common.{◌≡◌, ◌==◌, ℕ, ◌≤◌, inl, inr, Bool, true, List, length, map, Option, Some, None, Ok, slice_get, refl, sym, ap, subst, ◌∙◌}
+use Rattle.std.proofs.Common.{◌≡◌, ◌==◌, ℕ, ◌<◌, ◌≤◌, inl, inr, Bool, true, List, length, map, Option, Some, None, Ok, slice_get, refl, sym, ap, subst, ◌∙◌, arith}
 use Rattle.std.proofs.lemmas.List.{length-map}
-use Rattle.std.proofs.lemmas.Option.{same_Some, none-some, slice_get_past, slice_get_cases, slice_get-map}
+use Rattle.std.proofs.lemmas.Option.{same_Some, none-some, slice_get_past, slice_get_cases, slice_get_within, slice_get-map}
 use borrow.Author.Tests.{eq-eqb}
 use Rattle.std.specs.Prelude.{IfSome}
 use Rattle.list_laws.proofs.Choices.{mapped}
+use Rattle.list_laws.proofs.Places.{place_of}
 use Rattle.stream_core.specs.declared.phase.Phase.TheVariants.{Running}
 use Rattle.stream_core.specs.Standing.{phase_of}
 use Rattle.source_feed.specs.Planned.{FeedValue, groups_under}
+use Rattle.board_laws.specs.FedBoards.{IsFedBoard}
 use Rattle.board_laws.specs.Lawful.{standing_of, IsLawful}
 use Rattle.board_laws.specs.Meaning.{State, Meaning}
 use Rattle.board_laws.specs.Sources.{ShowAll}
+use Rattle.apply_core.specs.Ended.{AllHaveEnded}
 use Rattle.apply_core.proofs.PhasesTellNumbers.{running-done}
 use Rattle.change_laws.specs.Laws.{MovesGoOn, BoardsGoOnAndOn, BoardsStandStill}
 use Rattle.change_laws.specs.Since.{HasGoneOn, HaveGoneOn, HasMoved}
@@ -78,3 +81,11 @@ kept-live live sources are shows kept = record {
       subst (λ (b : List ℕ). groups_under b feed.plan ≡ Ok feed.groups) one.2 (kept.known s feed one.0 fed one.1).groups;
   running = kept.running;
 }
+
+-- ---- boards that have ended
+
+pub ended-run : (feeds : List FeedValue) (board : Meaning) → IsFedBoard feeds board → AllHaveEnded feeds board → AreRunning board
+ended-run feeds board fed ended s state here =
+    let fits : s < length feeds = omega (arith, slice_get_within board.streams s state here, fed.count) in
+    let there : (feed : FeedValue) × (slice_get feeds s ≡ Some feed) = place_of feeds s fits in
+    (ended s there.0 state there.1 here).running

@@ -91,12 +91,7 @@ impl<'h> Live<'h> {
     /// behind it. No stream reads or applies a group by it.
     ///
     /// Refused 115 where there is no such stream, else as `FeedEnd::grow`; then all is as it was.
-    pub fn grow(
-        &mut self,
-        alloc: Global,
-        s: u8,
-        piece: &'h [u8],
-    ) -> Result<u32, GrowRefusal>
+    pub fn grow(&mut self, alloc: Global, s: u8, piece: &'h [u8]) -> Result<u32, GrowRefusal>
         // The bytes that are taken stand behind those of the stream's feed, which has their groups.
         ensures taken { IfOk result (λ taken. TakesPiece s piece.now taken self.old.fed.feeds self.new.fed.feeds self.old.bytes self.new.bytes) }
         ensures refused { IfErr result (IsRefusedPiece s piece.now self.old.fed.feeds self.old.bytes) }
