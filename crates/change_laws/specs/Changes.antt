@@ -8,8 +8,8 @@ use Rattle.target_tables.specs.Contents.{value_at}
 use Rattle.target_tables.specs.Rising.{IsRising}
 use Rattle.source_feed.specs.History.{KeptRow}
 use Rattle.board_laws.specs.Meaning.{TargetRows}
-use Rattle.change_laws.specs.declared.changed.Changed.{Changed}
-use Rattle.change_laws.specs.declared.changed.Changed.TheVariants.{All, Touched}
+use Rattle.change_laws.specs.declared.changed_keys.ChangedKeys.{ChangedKeys}
+use Rattle.change_laws.specs.declared.changed_keys.ChangedKeys.TheVariants.{All, Touched}
 
 -- a key, with the stream and the row that stand there, or with nothing
 abbrev pub Change : Type 0
@@ -33,6 +33,6 @@ abbrev pub all_changes : TargetRows → List Change
 all_changes rows = map (λ entry. (entry.0, Some entry.1)) rows
 
 -- what stands at the keys that have changed
-abbrev pub changes_in : TargetRows → Changed → List Change
+abbrev pub changes_in : TargetRows → ChangedKeys → List Change
 changes_in rows All = all_changes rows
 changes_in rows (Touched keys) = changes_at rows keys.keys

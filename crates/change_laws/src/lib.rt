@@ -2,8 +2,8 @@
 //! what stands at them now. A crate of definitions and laws: beside a type it has no code.
 #![tactic(auto)]
 
-mod changed;
+mod changed_keys;
 mod laws;
 
-pub use changed::Changed;
+pub use changed_keys::ChangedKeys;
 pub use laws::{changes_lead_on, streams_go_on, untouched_keys_stand};

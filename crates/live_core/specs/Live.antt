@@ -20,8 +20,8 @@ use Rattle.apply_core.specs.declared.grow_refusal.GrowRefusal.{GrowRefusal}
 use Rattle.apply_core.specs.declared.grow_refusal.GrowRefusal.TheVariants.{NoStream, Piece}
 use Rattle.apply_core.specs.Ended.{AllHaveEnded, StreamHasEnded}
 use Rattle.apply_core.specs.Growing.{IsLonger}
-use Rattle.change_laws.specs.declared.changed.Changed.{Changed}
-use Rattle.change_laws.specs.declared.changed.Changed.TheVariants.{All, Touched}
+use Rattle.change_laws.specs.declared.changed_keys.ChangedKeys.{ChangedKeys}
+use Rattle.change_laws.specs.declared.changed_keys.ChangedKeys.TheVariants.{All, Touched}
 use Rattle.change_laws.specs.Changes.{LeadOn, changes_in}
 use Rattle.change_laws.specs.Since.{HaveGoneOn, IsTouchedSince}
 use Rattle.live_core.specs.Source.{IsOfSource}
@@ -98,7 +98,7 @@ abbrev pub told_rows : Option Meaning → TargetRows
 told_rows told = option_map_or (λ (board : Meaning). board.rows) told []
 
 -- they are just the keys that were touched since a board was told; and all rows where none was
-abbrev pub IsToldExactly : Option Meaning → Meaning → Changed → Type 0
+abbrev pub IsToldExactly : Option Meaning → Meaning → ChangedKeys → Type 0
 IsToldExactly None board All = Unit {0}
 IsToldExactly None board (Touched keys) = ⊥
 IsToldExactly (Some told) board All = ⊥
@@ -106,7 +106,7 @@ IsToldExactly (Some told) board (Touched keys) = (key : KeyValue) → (list_any 
 
 -- so many keys have changed since what was told: as many as there are such changes, no two of one key
 pub record AreCounted (count : ℕ) (told : Option Meaning) (board : Meaning) : Type 0 where
-  pub changed : Changed
+  pub changed : ChangedKeys
   pub exact : IsToldExactly told board changed
   pub lead : LeadOn (told_rows told) (changes_in board.rows changed) board.rows
   pub many : count ≡ length (changes_in board.rows changed)

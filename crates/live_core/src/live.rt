@@ -14,7 +14,7 @@ use crate::source::Source;
 use crate::told::{Told, applied_on};
 use crate::touched::touched_since;
 use apply_core::{FedBoard, GrowRefusal, StepRefusal, save};
-use change_laws::{Changed, changes_lead_on, streams_go_on};
+use change_laws::{ChangedKeys, changes_lead_on, streams_go_on};
 use std::alloc::{AllocError, Global};
 use std::marker::Model;
 use std::mem::replace;
@@ -131,7 +131,7 @@ impl<'h> Live<'h> {
 
     /// Which keys have changed since the last board that was told: those that the streams' groups have touched since,
     /// and where none was told all rows. An error is want of memory.
-    pub fn changed(&self, alloc: Global) -> Result<Changed, AllocError>
+    pub fn changed(&self, alloc: Global) -> Result<ChangedKeys, AllocError>
         // Who makes these changes to the rows that were told has the rows that are there.
         ensures lead { IfOk result (λ changed. LeadOn (told_rows self.now.told) (changes_in self.now.fed.board.rows changed) self.now.fed.board.rows) }
         // They are of just the keys that were touched.
@@ -142,12 +142,12 @@ impl<'h> Live<'h> {
         self.is_live();
         self.fed.is_fed();
         match &self.told {
-            None => Ok(Changed::All),
+            None => Ok(ChangedKeys::All),
             Some(told) => {
                 let keys = touched_since(alloc, self.fed.board(), told)?;
                 // (for the contract: that they rise)
                 keys.len();
-                Ok(Changed::Touched(keys))
+                Ok(ChangedKeys::Touched(keys))
             }
         }
     }
@@ -159,8 +159,8 @@ impl<'h> Live<'h> {
         ensures live { IsLive self.now }
     {
         match self.changed(alloc)? {
-            Changed::All => Ok(self.fed.board().target().len() as u64),
-            Changed::Touched(keys) => Ok(keys.len() as u64),
+            ChangedKeys::All => Ok(self.fed.board().target().len() as u64),
+            ChangedKeys::Touched(keys) => Ok(keys.len() as u64),
         }
     }
 
