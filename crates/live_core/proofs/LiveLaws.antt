@@ -1,6 +1,6 @@
 -- A board that goes on, and what is true of it.
-use Rattle.std.proofs.Common.{◌≡◌, ◌==◌, ℕ, ◌<◌, ◌≤◌, inl, inr, Bool, true, List, length, map, Option, Some, None, Ok, slice_get, refl, sym, ap, subst, ◌∙◌, arith}
-use Rattle.std.proofs.lemmas.List.{length-map}
+use Rattle.std.proofs.Common.{◌≡◌, ◌==◌, ℕ, ◌<◌, ◌≤◌, inl, inr, Bool, true, List, ◌++◌, length, map, take, drop, Option, Some, None, Ok, slice_get, refl, sym, ap, subst, ◌∙◌, arith}
+use Rattle.std.proofs.lemmas.List.{length-map, take-append-le, take_all}
 use Rattle.std.proofs.lemmas.Option.{same_Some, none-some, slice_get_past, slice_get_cases, slice_get_within, slice_get-map}
 use borrow.Author.Tests.{eq-eqb}
 use Rattle.std.specs.Prelude.{IfSome}
@@ -9,7 +9,7 @@ use Rattle.list_laws.proofs.Places.{place_of}
 use Rattle.stream_core.specs.declared.phase.Phase.TheVariants.{Running}
 use Rattle.stream_core.specs.Standing.{phase_of}
 use Rattle.source_feed.specs.Planned.{FeedValue, groups_under}
-use Rattle.board_laws.specs.FedBoards.{IsFedBoard}
+use Rattle.board_laws.specs.FedBoards.{Fed, IsFedBoard}
 use Rattle.board_laws.specs.Lawful.{standing_of, IsLawful}
 use Rattle.board_laws.specs.Meaning.{State, Meaning}
 use Rattle.board_laws.specs.Sources.{ShowAll}
@@ -69,6 +69,25 @@ kept-told still feeds board sources told lawful kept = record {
   running = kept.running;
   since = record { lawful = lawful; gone = (still feeds board).0 };
 }
+
+-- where feeds and their sources have grown
+pub kept-grown : (feeds new_feeds : List FeedValue) (board new_board : Meaning) (sources new : List Source) (told : Option Meaning) → new_board ≡ board → IsKept feeds board sources told → length new ≡ length new_feeds
+    → AreOfSources new_feeds new → IsKept new_feeds new_board new told
+kept-grown feeds new_feeds board new_board sources new told same kept count known = record {
+  count = count;
+  known = known;
+  running = subst AreRunning (sym same) kept.running;
+  since = subst (λ (b : Meaning). IfSome told (HasGoneOnFrom b)) (sym same) kept.since;
+}
+
+-- a board with its feeds, by both
+pub same-fed : (old new : Fed) → new.board ≡ old.board → new.feeds ≡ old.feeds → new ≡ old
+same-fed old new board feeds =
+    ap (λ (b : Meaning). let fed : Fed = record { board = b; feeds = new.feeds } in fed) board ∙ ap (λ (fs : List FeedValue). let fed : Fed = record { board = old.board; feeds = fs } in fed) feeds
+
+-- what a loan of the sources writes back
+pub refilled-sources : (n : ℕ) (items new : List Source) → length new ≡ n → take n (new ++ drop (length new) items) ≡ new
+refilled-sources n items new same = take-append-le n new (drop (length new) items) (omega (arith, same)) ∙ take_all n new (omega (arith, same))
 
 -- so it shows its sources
 pub kept-live : (live : LiveValue) (sources : List Source) → live.bytes ≡ map bytes_of sources → ShowAll live.fed.feeds live.fed.board → IsKept live.fed.feeds live.fed.board sources live.told → IsLive live
