@@ -1,0 +1,3 @@
+mod StepsOnRounds
+mod GroupsTakenIn
+mod RoundsEnd

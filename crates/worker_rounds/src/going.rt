@@ -1,0 +1,374 @@
+//! A board on its round.
+
+ghost use Rattle.std.specs.Prelude.{◌≡◌, ◌+◌, ◌<◌, ◌≤◌, [], false, None, Some, Ok, IfOk, IfSome, IsTrue, length, slice_get, slice_set, vec_len};
+ghost use Rattle.std.specs.Arc.{arc_value};
+ghost use Rattle.std.specs.List.{AllByRecursion};
+ghost use Rattle.std.specs.Vec.{vec_capacity};
+ghost use Rattle.stream_core.specs.declared.step.Step as steps;
+ghost use Rattle.source_feed.specs.Touches.{prepared_at};
+ghost use Rattle.board_laws.specs.Event.{advance};
+ghost use Rattle.board_laws.specs.FedBoards.{IsFedBoard};
+ghost use Rattle.apply_core.specs.Putting.{DoAsStep};
+ghost use Rattle.change_laws.specs.Since.{GoesOnBy};
+ghost use Rattle.board_laws.specs.declared.step_refusal.StepRefusal.{StepRefusal};
+ghost use Rattle.worker_rounds.specs.Rounds.{HasAppliedAll, OfStream};
+ghost use Rattle.worker_rounds.specs.Private.OnRound.{AnswersBy, AppliesOne, AreAnswersBy, AreAsideOf, AreThrough, IsOnRound, IsReady, IsStepOn, IsThrough, MayApply, MayTakeIn, Runs, applied_on};
+
+use crate::began::Began;
+use crate::ready::Ready;
+use apply_core::{Board, Puts, StepRefusal};
+use board_laws::steps_keep_boards_lawful;
+use change_laws::streams_go_on;
+use pk_copy::{CopyState, Key};
+use row_view::RowBuf;
+use source_feed::{Feed, Prepared};
+use std::alloc::{AllocError, Global};
+use std::marker::{Model, PhantomData};
+use std::mem::replace;
+use std::sync::Arc;
+use stream_core::Step;
+use target_tables::Freed;
+
+/// A board on its round, with what stopped each of its streams, if anything did, and how many groups each had applied at
+/// first. It is what the threads share: whoever has it has a board that has moved from the one that the round began with.
+#[derive(Drop)]
+pub(crate) struct Going<'h, J: Began> {
+    board: Board<'h>,
+    stopped: Vec<Option<StepRefusal>>,
+    first: Vec<u32>,
+    of: PhantomData<J>,
+}
+
+impl<'h, J: Began> Model for Going<'h, J> {
+    ghost use Rattle.worker_rounds.specs.Private.OnRound.{Gone, IsOnRound};
+
+    ghost Value = { Gone };
+
+    ghost view = { λ g. record { board = g.board; stopped = g.stopped.items; first = g.first.items } };
+
+    ghost invariant = { λ g. IsOnRound J.fed J.most (record { board = g.board; stopped = g.stopped.items; first = g.first.items }) };
+}
+
+/// Stream `s` is stopped.
+fn put_stop(stopped: &mut [Option<StepRefusal>], s: u8, refusal: StepRefusal)
+    requires { s < length stopped.old }
+    ensures { stopped.new ≡ slice_set stopped.old s (Some refusal) }
+{
+    let place = &mut stopped[s as usize];
+    let _ = replace(place, Some(refusal));
+}
+
+/// Whether stream `s` has applied all groups of its feed.
+fn has_applied_all(board: &Board<'_>, feed: &Feed<'_>, s: u8) -> bool
+    requires { s < length board.now.streams }
+    ensures yes { IsTrue result → IfSome (slice_get board.now.streams s) (HasAppliedAll feed.now) }
+    ensures no { result ≡ false → IfSome (slice_get board.now.streams s) (λ state. ¬ HasAppliedAll feed.now state) }
+{
+    let Ok(at) = board.state(s) else {
+        unreachable!()
+    };
+    let groups = feed.len() as u32;
+    at.read() == groups && at.applied() == groups
+}
+
+/// What is answered of stream `s`.
+fn answer_of(
+    board: &Board<'_>,
+    feed: &Feed<'_>,
+    s: u8,
+    stopped: Option<StepRefusal>,
+) -> Result<bool, StepRefusal>
+    requires { s < length board.now.streams }
+    ensures { IfSome (slice_get board.now.streams s) (λ state. AnswersBy feed.now state stopped.entry result) }
+{
+    match stopped {
+        Some(refusal) => Err(refusal),
+        None => Ok(has_applied_all(board, feed, s)),
+    }
+}
+
+impl<'h, J: Began> Going<'h, J> {
+    /// The board that a round begins with.
+    pub(crate) fn new(
+        board: Board<'h>,
+        stopped: Vec<Option<StepRefusal>>,
+        first: Vec<u32>,
+    ) -> Going<'h, J>
+        requires board { board ≡ J.fed.board }
+        requires fed { IsFedBoard J.fed.feeds J.fed.board }
+        requires stopped { AllByRecursion (λ stop. stop ≡ None) stopped.items }
+        requires count { length stopped.items ≡ length J.fed.feeds }
+        requires first { first.items ≡ applied_on board }
+    {
+        streams_go_on();
+        Going {
+            board,
+            stopped,
+            first,
+            of: PhantomData,
+        }
+    }
+
+    /// It is on its round: a fact for contracts. Takes no memory.
+    fn is_on_round(&self)
+        ensures { IsOnRound J.fed J.most self.now }
+    {
+        let _ = &self.board;
+    }
+
+    /// A step by which stream `s` goes on: whether it was made. A refusal stops the stream.
+    fn step(&mut self, alloc: Global, feeds: &[Feed<'h>], s: u8, step: Step) -> bool
+        requires feeds { feeds.now ≡ J.fed.feeds }
+        requires onwards { GoesOnBy step }
+        requires runs { Runs self.old s }
+        requires room { step ≡ steps.Step.Advance → MayApply J.most J.fed.board self.old.board s }
+        ensures step { IsStepOn J.fed.feeds s step result self.old self.new }
+        ensures aside { AreAsideOf s self.old self.new }
+    {
+        streams_go_on();
+        match self.board.take_step(alloc, feeds, s, step) {
+            Ok(_) => true,
+            Err(refusal) => {
+                put_stop(&mut self.stopped, s, refusal);
+                false
+            }
+        }
+    }
+
+    /// A group of its feed is offered to stream `s`: whether it was read. A refusal stops the stream.
+    fn offer(&mut self, s: u8, group: Arc<Prepared<'h>>) -> bool
+        requires group { IfSome (slice_get J.fed.feeds s) (λ feed. prepared_at feed (arc_value group).number ≡ Ok (arc_value group)) }
+        requires runs { Runs self.old s }
+        ensures step { IsStepOn J.fed.feeds s (steps.Step.Offer (arc_value group.entry).number) result self.old self.new }
+        ensures aside { AreAsideOf s self.old self.new }
+    {
+        streams_go_on();
+        match self.board.offer_own(s, group) {
+            Ok(_) => true,
+            Err(refusal) => {
+                put_stop(&mut self.stopped, s, StepRefusal::Refused(refusal));
+                false
+            }
+        }
+    }
+
+    /// The next group of stream `s` is applied by puts that were built before: whether it was. What they replaced is
+    /// handed on, to be dropped once the board is given back. A refusal stops the stream.
+    fn advance(
+        &mut self,
+        alloc: Global,
+        s: u8,
+        puts: Puts,
+        freed: &mut Vec<Freed<Key, RowBuf>>,
+    ) -> bool
+        requires puts { IfSome (slice_get self.old.board.streams s) (λ state. DoAsStep state advance puts.changes.items) }
+        requires runs { Runs self.old s }
+        requires room { MayApply J.most J.fed.board self.old.board s }
+        ensures step { IsStepOn J.fed.feeds s steps.Step.Advance result self.old self.new }
+        ensures aside { AreAsideOf s self.old self.new }
+    {
+        streams_go_on();
+        match self.board.advance_by(alloc, s, puts) {
+            Ok((_, replaced)) => {
+                let _ = freed.push(replaced);
+                true
+            }
+            Err(refusal) => {
+                put_stop(&mut self.stopped, s, StepRefusal::Refused(refusal));
+                false
+            }
+        }
+    }
+
+    /// Whether stream `s` isn't stopped.
+    fn runs(&self, s: u8) -> bool
+        requires { s < length J.fed.feeds }
+        ensures yes { IsTrue result → Runs self.now s }
+        ensures no { result ≡ false → (refusal : StepRefusal) × (slice_get self.now.stopped s ≡ Some (Some refusal)) }
+    {
+        self.stopped[s as usize].is_none()
+    }
+
+    /// Whether stream `s` has applied fewer than so many groups more.
+    fn may_apply(&self, s: u8, most: u32) -> bool
+        requires most { most ≡ J.most }
+        requires there { s < length J.fed.feeds }
+        ensures yes { IsTrue result → MayApply J.most J.fed.board self.now.board s }
+        ensures no { result ≡ false → OfStream (λ feed before after. after.applied ≡ before.applied + J.most) J.fed.feeds J.fed.board self.now.board s }
+    {
+        streams_go_on();
+        let Ok(at) = self.board.state(s) else {
+            unreachable!()
+        };
+        at.applied() - self.first[s as usize] < most
+    }
+
+    /// Stream `s` applies its next group, and reads it where it isn't read: whether it did.
+    fn go_on(&mut self, alloc: Global, feeds: &[Feed<'h>], s: u8, most: u32) -> bool
+        requires feeds { feeds.now ≡ J.fed.feeds }
+        requires most { most ≡ J.most }
+        requires there { s < length feeds.now }
+        ensures went { IsTrue result → AppliesOne s self.old.board self.new.board }
+        ensures through { result ≡ false → IsThrough J.fed J.most self.new s }
+        ensures aside { AreAsideOf s self.old self.new }
+    {
+        steps_keep_boards_lawful();
+        self.is_on_round();
+        if !self.runs(s) || !self.may_apply(s, most) {
+            return false;
+        }
+        let groups = feeds[s as usize].len() as u32;
+        let Ok(at) = self.board.state(s) else {
+            unreachable!()
+        };
+        if at.applied() == at.read() {
+            if at.read() == groups {
+                return false;
+            }
+            if !self.step(alloc, feeds, s, Step::Offer(at.read() + 1)) {
+                return false;
+            }
+        }
+        self.step(alloc, feeds, s, Step::Advance)
+    }
+
+    /// The number of the group that stream `s` may read and apply next, where it isn't stopped and has applied all that it
+    /// read.
+    fn next_to_take(&self, s: u8, most: u32) -> Option<u32>
+        requires most { most ≡ J.most }
+        requires there { s < length J.fed.feeds }
+        ensures { IfSome result (MayTakeIn J.fed J.most self.now s) }
+    {
+        steps_keep_boards_lawful();
+        self.is_on_round();
+        let Ok(at) = self.board.state(s) else {
+            unreachable!()
+        };
+        if self.runs(s) && self.may_apply(s, most) && at.applied() == at.read() {
+            return Some(at.read() + 1);
+        }
+        None
+    }
+
+    /// A group that stands ready is read by stream `s` and applied, where it is the next one: whether it was.
+    fn take_in(
+        &mut self,
+        alloc: Global,
+        s: u8,
+        most: u32,
+        ready: Ready<'h>,
+        freed: &mut Vec<Freed<Key, RowBuf>>,
+    ) -> bool
+        requires most { most ≡ J.most }
+        requires there { s < length J.fed.feeds }
+        requires ready { IsReady J.fed s ready }
+    {
+        let Ready { group, puts } = ready;
+        if self.next_to_take(s, most) != Some(group.number()) {
+            return false;
+        }
+        self.offer(s, group) && self.advance(alloc, s, puts, freed)
+    }
+
+    /// A turn of stream `s`: it takes in the groups that stand ready, or goes on without them where it can't take in the
+    /// first. The answer is the number of the group that it may apply next, or none where it has gone as far as it can.
+    pub(crate) fn turn(
+        &mut self,
+        alloc: Global,
+        feeds: &[Feed<'h>],
+        s: u8,
+        most: u32,
+        readies: Vec<Ready<'h>>,
+        freed: &mut Vec<Freed<Key, RowBuf>>,
+    ) -> Option<u32>
+        requires feeds { feeds.now ≡ J.fed.feeds }
+        requires most { most ≡ J.most }
+        requires there { s < length feeds.now }
+        requires readies { AllByRecursion (IsReady J.fed s) readies.items }
+    {
+        let mut taken = false;
+        for ready in readies {
+            if !self.take_in(alloc, s, most, ready, freed) {
+                break;
+            }
+            taken = true;
+        }
+        if !taken && !self.go_on(alloc, feeds, s, most) {
+            return None;
+        }
+        self.next_number(s)
+    }
+
+    /// The number of the group that stream `s` applies next, if it isn't stopped.
+    fn next_number(&self, s: u8) -> Option<u32> {
+        match (self.board.state(s), self.stopped.get(s as usize)) {
+            (Ok(at), Some(None)) => at.applied().checked_add(1),
+            _ => None,
+        }
+    }
+
+    /// What a stream's thread begins with: how many groups are applied, and how far its tables are copied, in memory of its
+    /// own. An error is want of memory.
+    pub(crate) fn begin(&self, alloc: Global, s: u8) -> Result<(u32, CopyState), AllocError>
+        requires { s < length J.fed.feeds }
+        ensures { IfOk result (λ begun. IfSome (slice_get J.fed.board.streams s) (λ state. begun.1 ≡ state.marks)) }
+    {
+        streams_go_on();
+        let (Ok(at), Ok(marks)) = (self.board.state(s), self.board.marks(s)) else {
+            unreachable!()
+        };
+        let marks = marks.try_clone(alloc)?;
+        Ok((at.applied(), marks))
+    }
+
+    /// Stream `s` goes as far as it can: to its feed's end, by so many groups, or to where it is stopped.
+    fn go_through(&mut self, alloc: Global, feeds: &[Feed<'h>], s: u8, most: u32)
+        requires feeds { feeds.now ≡ J.fed.feeds }
+        requires most { most ≡ J.most }
+        requires there { s < length feeds.now }
+        ensures through { IsThrough J.fed J.most self.new s }
+        ensures aside { AreAsideOf s self.old self.new }
+    {
+        streams_go_on();
+        self.is_on_round();
+        for _ in 0..most {
+            if !self.go_on(alloc, feeds, s, most) {
+                return;
+            }
+        }
+        self.is_on_round();
+    }
+
+    /// All streams go as far as they can, one after another.
+    pub(crate) fn go_through_all(&mut self, alloc: Global, feeds: &[Feed<'h>], most: u32)
+        requires feeds { feeds.now ≡ J.fed.feeds }
+        requires most { most ≡ J.most }
+        ensures { AreThrough J.fed J.most self.new (length J.fed.feeds) }
+    {
+        self.is_on_round();
+        for s in 0..feeds.len() {
+            self.go_through(alloc, feeds, s as u8, most);
+        }
+    }
+
+    /// The board, and of each stream what is answered, in a vector with room for that.
+    pub(crate) fn into_answers(
+        self,
+        feeds: &[Feed<'h>],
+        mut answers: Vec<Result<bool, StepRefusal>>,
+    ) -> (Board<'h>, Vec<Result<bool, StepRefusal>>)
+        requires feeds { feeds.now ≡ J.fed.feeds }
+        requires room { (answers.items ≡ []) × (vec_len answers ≡ 0) × (length feeds.now ≤ vec_capacity answers) }
+        ensures board { result.0 ≡ self.entry.board }
+        ensures answers { AreAnswersBy J.fed.feeds self.entry.board self.entry.stopped result.1.items }
+        ensures round { IsOnRound J.fed J.most self.entry }
+    {
+        let Going { board, stopped, .. } = self;
+        let mut s = 0;
+        for stop in stopped {
+            answers.push_reserved(answer_of(&board, &feeds[s as usize], s, stop));
+            s += 1;
+        }
+        (board, answers)
+    }
+}
