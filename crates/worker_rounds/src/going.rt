@@ -18,7 +18,6 @@ use crate::began::Began;
 use crate::ready::Ready;
 use apply_core::{Board, Puts, StepRefusal};
 use board_laws::steps_keep_boards_lawful;
-use change_laws::streams_go_on;
 use pk_copy::{CopyState, Key};
 use row_view::RowBuf;
 use source_feed::{Feed, Prepared};
@@ -100,7 +99,6 @@ impl<'h, J: Began> Going<'h, J> {
         requires count { length stopped.items ≡ length J.fed.feeds }
         requires first { first.items ≡ applied_on board }
     {
-        streams_go_on();
         Going {
             board,
             stopped,
@@ -123,9 +121,8 @@ impl<'h, J: Began> Going<'h, J> {
         requires runs { Runs self.old s }
         requires room { step ≡ steps.Step.Advance → MayApply J.most J.fed.board self.old.board s }
         ensures step { IsStepOn J.fed.feeds s step result self.old self.new }
-        ensures aside { AreAsideOf s self.old self.new }
+        ensures round { IsOnRound J.fed J.most self.new }
     {
-        streams_go_on();
         match self.board.take_step(alloc, feeds, s, step) {
             Ok(_) => true,
             Err(refusal) => {
@@ -140,9 +137,8 @@ impl<'h, J: Began> Going<'h, J> {
         requires group { IfSome (slice_get J.fed.feeds s) (λ feed. prepared_at feed (arc_value group).number ≡ Ok (arc_value group)) }
         requires runs { Runs self.old s }
         ensures step { IsStepOn J.fed.feeds s (steps.Step.Offer (arc_value group.entry).number) result self.old self.new }
-        ensures aside { AreAsideOf s self.old self.new }
+        ensures round { IsOnRound J.fed J.most self.new }
     {
-        streams_go_on();
         match self.board.offer_own(s, group) {
             Ok(_) => true,
             Err(refusal) => {
@@ -165,9 +161,7 @@ impl<'h, J: Began> Going<'h, J> {
         requires runs { Runs self.old s }
         requires room { MayApply J.most J.fed.board self.old.board s }
         ensures step { IsStepOn J.fed.feeds s steps.Step.Advance result self.old self.new }
-        ensures aside { AreAsideOf s self.old self.new }
     {
-        streams_go_on();
         match self.board.advance_by(alloc, s, puts) {
             Ok((_, replaced)) => {
                 let _ = freed.push(replaced);
@@ -196,7 +190,6 @@ impl<'h, J: Began> Going<'h, J> {
         ensures yes { IsTrue result → MayApply J.most J.fed.board self.now.board s }
         ensures no { result ≡ false → OfStream (λ feed before after. after.applied ≡ before.applied + J.most) J.fed.feeds J.fed.board self.now.board s }
     {
-        streams_go_on();
         let Ok(at) = self.board.state(s) else {
             unreachable!()
         };
@@ -211,6 +204,7 @@ impl<'h, J: Began> Going<'h, J> {
         ensures went { IsTrue result → AppliesOne s self.old.board self.new.board }
         ensures through { result ≡ false → IsThrough J.fed J.most self.new s }
         ensures aside { AreAsideOf s self.old self.new }
+        ensures round { IsOnRound J.fed J.most self.new }
     {
         steps_keep_boards_lawful();
         self.is_on_round();
@@ -313,7 +307,6 @@ impl<'h, J: Began> Going<'h, J> {
         requires { s < length J.fed.feeds }
         ensures { IfOk result (λ begun. IfSome (slice_get J.fed.board.streams s) (λ state. begun.1 ≡ state.marks)) }
     {
-        streams_go_on();
         let (Ok(at), Ok(marks)) = (self.board.state(s), self.board.marks(s)) else {
             unreachable!()
         };
@@ -329,14 +322,12 @@ impl<'h, J: Began> Going<'h, J> {
         ensures through { IsThrough J.fed J.most self.new s }
         ensures aside { AreAsideOf s self.old self.new }
     {
-        streams_go_on();
         self.is_on_round();
-        for _ in 0..most {
+        for _done in 0..most {
             if !self.go_on(alloc, feeds, s, most) {
                 return;
             }
         }
-        self.is_on_round();
     }
 
     /// All streams go as far as they can, one after another.

@@ -14,7 +14,6 @@ use crate::going::Going;
 use crate::place::Place;
 use apply_core::{Board, FedBoard, StepRefusal};
 use board_laws::fed_boards_show_all;
-use change_laws::streams_go_on;
 use source_feed::{Feed, FeedEnd};
 use std::alloc::{AllocError, Global};
 use std::marker::Brand;
@@ -118,7 +117,7 @@ fn none_stopped(alloc: Global, count: usize) -> Result<Vec<Option<StepRefusal>>,
     ensures none { IfOk result (λ stopped. AllByRecursion (λ stop. stop ≡ None) stopped.items) }
 {
     let mut stopped = Vec::with_capacity(alloc, count)?;
-    for _ in 0..count {
+    for _s in 0..count {
         stopped.push(None)?;
     }
     Ok(stopped)
@@ -204,7 +203,6 @@ pub fn run_round<'h, R: Threads + Wait + Sync>(
     ensures feeds { fed.new.feeds ≡ fed.old.feeds }
     ensures shows { ShowAll fed.new.feeds fed.new.board }
 {
-    streams_go_on();
     fed_boards_show_all();
     fed.is_fed();
     let Room {
