@@ -4,7 +4,7 @@ use Rattle.std.proofs.lemmas.Bool.{eqb-false}
 use Rattle.std.proofs.lemmas.Option.{same_Some, none-some, slice_get_within}
 use Rattle.std.specs.List.{AllByRecursion}
 use borrow.Author.Tests.{eq-eqb, eqb-true}
-use Rattle.list_laws.proofs.Places.{place_of, slice_get-push}
+use Rattle.list_laws.proofs.Places.{no_place, place_of, slice_get-push}
 use Rattle.stream_core.specs.declared.phase.Phase.TheVariants.{Running}
 use Rattle.stream_core.specs.Standing.{phase_of}
 use Rattle.source_feed.specs.Planned.{FeedValue}
@@ -22,7 +22,7 @@ use Rattle.worker_rounds.specs.Private.OnRound.{Gone, IsOnRound, AreAsideOf, IsF
 -- ---- at first
 
 none-stopped : (stopped : List (Option StepRefusal)) → AllByRecursion (λ stop. stop ≡ None) stopped → (s : ℕ) (refusal : StepRefusal) → slice_get stopped s ≡ Some (Some refusal) → ⊥
-none-stopped [] all s refusal e = none-some (Some refusal) e
+none-stopped [] all s refusal e = no_place s (Some refusal) e
 none-stopped (stop ∷ later) all zero refusal e = none-some refusal (sym all.0 ∙ same_Some stop (Some refusal) e)
 none-stopped (stop ∷ later) all (suc s) refusal e = none-stopped later all.1 s refusal e
 
@@ -156,11 +156,9 @@ pub answers-more : (feeds : List FeedValue) (board : Meaning) (stopped longer : 
     → AreAnswersBy feeds board stopped answers → AreAnswersBy feeds board longer more
 answers-more feeds board stopped longer answers more s feed state stop answer long is_longer is_more at there here are = record {
   count =
-      ap (λ (xs : List (Result Bool StepRefusal)). length xs) is_more
-      ∙ length-append answers (answer ∷ [])
-      ∙ ap (λ (n : ℕ). n + 1) are.count
-      ∙ sym (length-append stopped (stop ∷ []))
-      ∙ ap (λ (xs : List (Option StepRefusal)). length xs) (sym is_longer);
+      let one = ap (λ (xs : List (Result Bool StepRefusal)). length xs) is_more ∙ length-append answers (answer ∷ []) in
+      let other = ap (λ (xs : List (Option StepRefusal)). length xs) is_longer ∙ length-append stopped (stop ∷ []) in
+      omega (arith, one, other, are.count);
   each = λ t f x o a at_t there_t stop_t answer_t.
       elim (slice_get-push stopped stop o t (ap (λ (xs : List (Option StepRefusal)). slice_get xs t) (sym is_longer) ∙ stop_t)) [
         | inl old ↦

@@ -49,7 +49,7 @@ offered-applied feed n state event e = by (prepared_at feed n) e
     by (Err fault) e = absurd (none-some event e)
 
 advanced-applied : (feed : FeedValue) (state : State) (event : Event) → event_of_step feed Advance ≡ Some event → (state_after state event).applied ≡ suc state.applied
-advanced-applied feed state event e = subst (λ (x : Event). (state_after state x).applied ≡ suc state.applied) (same_Some advance event e) (omega arith)
+advanced-applied feed state event e = let one : state.applied + 1 ≡ suc state.applied = omega arith in subst (λ (x : Event). (state_after state x).applied ≡ suc state.applied) (same_Some advance event e) one
 
 -- a board that is left as it was
 still-states : (old new : Meaning) → new ≡ old → (t : ℕ) (before after : State) → slice_get old.streams t ≡ Some before → slice_get new.streams t ≡ Some after → after ≡ before
@@ -125,8 +125,8 @@ upto-step most feeds first old new s step reply count by_step room h upto t befo
     elim (step-counts feeds old new s step reply by_step h t there.0 after there.1 stands) [
       | inl same ↦ omega (arith, same, le)
       | inr one ↦
-          let less : there.0.applied < before.applied + most = room one.2 before there.0 (ap (slice_get first.streams) (sym one.0) ∙ stood) (ap (slice_get old.streams) (sym one.0) ∙ there.1) in
-          let more : after.applied ≡ suc there.0.applied = one.3 in
+          let less : there.0.applied < before.applied + most = room one.1 before there.0 (ap (slice_get first.streams) (sym one.0) ∙ stood) (ap (slice_get old.streams) (sym one.0) ∙ there.1) in
+          let more : after.applied ≡ suc there.0.applied = one.2 in
           omega (arith, more, less)
     ]
 

@@ -49,9 +49,9 @@ impl<'h, J: Began> Model for Going<'h, J> {
 }
 
 /// Stream `s` is stopped.
-fn put_stop(stopped: &mut [Option<StepRefusal>], s: u8, refusal: StepRefusal)
-    requires { s < length stopped.old }
-    ensures { stopped.new ≡ slice_set stopped.old s (Some refusal) }
+fn put_stop(stopped: &mut Vec<Option<StepRefusal>>, s: u8, refusal: StepRefusal)
+    requires { s < length stopped.old.items }
+    ensures { stopped.new.items ≡ slice_set stopped.old.items s (Some refusal) }
 {
     let place = &mut stopped[s as usize];
     let _ = replace(place, Some(refusal));
