@@ -1,3 +1,4 @@
 mod StepsOnRounds
+mod StreamsOnRounds
 mod GroupsTakenIn
 mod RoundsEnd

@@ -1,6 +1,6 @@
 //! A board on its round.
 
-ghost use Rattle.std.specs.Prelude.{◌≡◌, ◌+◌, ◌<◌, ◌≤◌, [], false, None, Some, Ok, IfOk, IfSome, IsTrue, length, slice_get, slice_set, vec_len};
+ghost use Rattle.std.specs.Prelude.{◌≡◌, ◌+◌, ◌<◌, ◌≤◌, ◌^◌, [], false, None, Some, Ok, IfOk, IfSome, IsTrue, length, slice_get, slice_set, vec_len};
 ghost use Rattle.std.specs.Arc.{arc_value};
 ghost use Rattle.std.specs.List.{AllByRecursion};
 ghost use Rattle.std.specs.Vec.{vec_capacity};
@@ -10,9 +10,8 @@ ghost use Rattle.board_laws.specs.Event.{advance};
 ghost use Rattle.board_laws.specs.FedBoards.{IsFedBoard};
 ghost use Rattle.apply_core.specs.Putting.{DoAsStep};
 ghost use Rattle.change_laws.specs.Since.{GoesOnBy};
-ghost use Rattle.board_laws.specs.declared.step_refusal.StepRefusal.{StepRefusal};
 ghost use Rattle.worker_rounds.specs.Rounds.{HasAppliedAll, OfStream};
-ghost use Rattle.worker_rounds.specs.Private.OnRound.{AnswersBy, AppliesOne, AreAnswersBy, AreAsideOf, AreThrough, IsOnRound, IsReady, IsStepOn, IsThrough, MayApply, MayTakeIn, Runs, applied_on};
+ghost use Rattle.worker_rounds.specs.Private.OnRound.{AnswersBy, AppliesNone, AppliesOne, AreAnswersBy, AreAsideOf, AreThrough, IsOnRound, IsReady, IsStepOn, IsThrough, MayApply, IsStoppedIn, MayTakeIn, Runs, applied_on};
 
 use crate::began::Began;
 use crate::ready::Ready;
@@ -57,6 +56,15 @@ fn put_stop(stopped: &mut Vec<Option<StepRefusal>>, s: u8, refusal: StepRefusal)
     let _ = replace(place, Some(refusal));
 }
 
+/// How many groups a feed has: fewer than 2^31.
+fn count_of(feed: &Feed<'_>) -> u32
+    ensures { result ≡ length feed.now.groups }
+{
+    // (for the contract: how many there are at most)
+    feed.plan();
+    feed.len() as u32
+}
+
 /// Whether stream `s` has applied all groups of its feed.
 fn has_applied_all(board: &Board<'_>, feed: &Feed<'_>, s: u8) -> bool
     requires { s < length board.now.streams }
@@ -66,7 +74,7 @@ fn has_applied_all(board: &Board<'_>, feed: &Feed<'_>, s: u8) -> bool
     let Ok(at) = board.state(s) else {
         unreachable!()
     };
-    let groups = feed.len() as u32;
+    let groups = count_of(feed);
     at.read() == groups && at.applied() == groups
 }
 
@@ -178,7 +186,7 @@ impl<'h, J: Began> Going<'h, J> {
     fn runs(&self, s: u8) -> bool
         requires { s < length J.fed.feeds }
         ensures yes { IsTrue result → Runs self.now s }
-        ensures no { result ≡ false → (refusal : StepRefusal) × (slice_get self.now.stopped s ≡ Some (Some refusal)) }
+        ensures no { result ≡ false → IsStoppedIn self.now s }
     {
         self.stopped[s as usize].is_none()
     }
@@ -190,10 +198,58 @@ impl<'h, J: Began> Going<'h, J> {
         ensures yes { IsTrue result → MayApply J.most J.fed.board self.now.board s }
         ensures no { result ≡ false → OfStream (λ feed before after. after.applied ≡ before.applied + J.most) J.fed.feeds J.fed.board self.now.board s }
     {
+        self.is_on_round();
         let Ok(at) = self.board.state(s) else {
             unreachable!()
         };
-        at.applied() - self.first[s as usize] < most
+        let first = self.first[s as usize];
+        u64::from(at.applied()) < u64::from(first) + u64::from(most)
+    }
+
+    /// Whether stream `s` has groups of its feed left to apply.
+    fn has_more(&self, feeds: &[Feed<'h>], s: u8) -> bool
+        requires feeds { feeds.now ≡ J.fed.feeds }
+        requires there { s < length feeds.now }
+        ensures { result ≡ false → OfStream (λ feed before after. HasAppliedAll feed after) J.fed.feeds J.fed.board self.now.board s }
+    {
+        self.is_on_round();
+        !has_applied_all(&self.board, &feeds[s as usize], s)
+    }
+
+    /// The number of the last group that stream `s` has read, and that of the last one that it has applied.
+    fn numbers(&self, s: u8) -> (u32, u32)
+        requires { s < length J.fed.feeds }
+        ensures read { IfSome (slice_get self.now.board.streams s) (λ state. result.0 ≡ length state.list) }
+        ensures applied { IfSome (slice_get self.now.board.streams s) (λ state. result.1 ≡ state.applied) }
+        ensures short { result.0 < 2 ^ 31 }
+    {
+        steps_keep_boards_lawful();
+        self.board.is_lawful();
+        self.is_on_round();
+        let Ok(at) = self.board.state(s) else {
+            unreachable!()
+        };
+        (at.read(), at.applied())
+    }
+
+    /// A group stands read that stream `s` applies next: whether one does. Where none did, the next one of its feed is
+    /// offered. A refusal stops the stream.
+    fn read_next(&mut self, alloc: Global, feeds: &[Feed<'h>], s: u8) -> bool
+        requires feeds { feeds.now ≡ J.fed.feeds }
+        requires there { s < length feeds.now }
+        requires runs { Runs self.old s }
+        ensures runs { IsTrue result → Runs self.new s }
+        ensures stopped { result ≡ false → IsStoppedIn self.new s }
+        ensures applied { AppliesNone s self.old.board self.new.board }
+        ensures aside { AreAsideOf s self.old self.new }
+        ensures round { IsOnRound J.fed J.most self.new }
+    {
+        self.is_on_round();
+        let (read, applied) = self.numbers(s);
+        if applied != read {
+            return true;
+        }
+        self.step(alloc, feeds, s, Step::Offer(read + 1))
     }
 
     /// Stream `s` applies its next group, and reads it where it isn't read: whether it did.
@@ -206,22 +262,18 @@ impl<'h, J: Began> Going<'h, J> {
         ensures aside { AreAsideOf s self.old self.new }
         ensures round { IsOnRound J.fed J.most self.new }
     {
-        steps_keep_boards_lawful();
         self.is_on_round();
-        if !self.runs(s) || !self.may_apply(s, most) {
+        if !self.runs(s) {
             return false;
         }
-        let groups = feeds[s as usize].len() as u32;
-        let Ok(at) = self.board.state(s) else {
-            unreachable!()
-        };
-        if at.applied() == at.read() {
-            if at.read() == groups {
-                return false;
-            }
-            if !self.step(alloc, feeds, s, Step::Offer(at.read() + 1)) {
-                return false;
-            }
+        if !self.may_apply(s, most) {
+            return false;
+        }
+        if !self.has_more(feeds, s) {
+            return false;
+        }
+        if !self.read_next(alloc, feeds, s) {
+            return false;
         }
         self.step(alloc, feeds, s, Step::Advance)
     }
@@ -233,15 +285,12 @@ impl<'h, J: Began> Going<'h, J> {
         requires there { s < length J.fed.feeds }
         ensures { IfSome result (MayTakeIn J.fed J.most self.now s) }
     {
-        steps_keep_boards_lawful();
         self.is_on_round();
-        let Ok(at) = self.board.state(s) else {
-            unreachable!()
-        };
-        if self.runs(s) && self.may_apply(s, most) && at.applied() == at.read() {
-            return Some(at.read() + 1);
+        let (read, applied) = self.numbers(s);
+        if applied != read || !self.runs(s) || !self.may_apply(s, most) {
+            return None;
         }
-        None
+        Some(read + 1)
     }
 
     /// A group that stands ready is read by stream `s` and applied, where it is the next one: whether it was.
@@ -257,11 +306,18 @@ impl<'h, J: Began> Going<'h, J> {
         requires there { s < length J.fed.feeds }
         requires ready { IsReady J.fed s ready }
     {
+        self.is_on_round();
         let Ready { group, puts } = ready;
-        if self.next_to_take(s, most) != Some(group.number()) {
+        let Some(next) = self.next_to_take(s, most) else {
+            return false;
+        };
+        if next != group.number() {
             return false;
         }
-        self.offer(s, group) && self.advance(alloc, s, puts, freed)
+        if !self.offer(s, group) {
+            return false;
+        }
+        self.advance(alloc, s, puts, freed)
     }
 
     /// A turn of stream `s`: it takes in the groups that stand ready, or goes on without them where it can't take in the
@@ -290,15 +346,11 @@ impl<'h, J: Began> Going<'h, J> {
         if !taken && !self.go_on(alloc, feeds, s, most) {
             return None;
         }
-        self.next_number(s)
-    }
-
-    /// The number of the group that stream `s` applies next, if it isn't stopped.
-    fn next_number(&self, s: u8) -> Option<u32> {
-        match (self.board.state(s), self.stopped.get(s as usize)) {
-            (Ok(at), Some(None)) => at.applied().checked_add(1),
-            _ => None,
+        if !self.runs(s) {
+            return None;
         }
+        let (_, applied) = self.numbers(s);
+        applied.checked_add(1)
     }
 
     /// What a stream's thread begins with: how many groups are applied, and how far its tables are copied, in memory of its

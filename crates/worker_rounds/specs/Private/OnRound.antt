@@ -46,6 +46,10 @@ pub record IsOnRound (fed : Fed) (most : ℕ) (gone : Gone) : Type 0 where
 abbrev pub Runs : Gone → ℕ → Type 0
 Runs gone s = slice_get gone.stopped s ≡ Some None
 
+-- it is
+abbrev pub IsStoppedIn : Gone → ℕ → Type 0
+IsStoppedIn gone s = (refusal : StepRefusal) × (slice_get gone.stopped s ≡ Some (Some refusal))
+
 -- it has applied fewer than so many groups more
 abbrev pub MayApply : ℕ → Meaning → Meaning → ℕ → Type 0
 MayApply most old board s = (before now : State) → slice_get old.streams s ≡ Some before → slice_get board.streams s ≡ Some now → now.applied < before.applied + most
@@ -62,6 +66,10 @@ pub record AreAsideOf (s : ℕ) (old new : Gone) : Type 0 where
 
 -- ---- one group after another
 
+-- stream s has applied no group more
+abbrev pub AppliesNone : ℕ → Meaning → Meaning → Type 0
+AppliesNone s old new = (before after : State) → slice_get old.streams s ≡ Some before → slice_get new.streams s ≡ Some after → after.applied ≡ before.applied
+
 -- stream s has applied one group more
 abbrev pub AppliesOne : ℕ → Meaning → Meaning → Type 0
 AppliesOne s old new = (before after : State) → slice_get old.streams s ≡ Some before → slice_get new.streams s ≡ Some after → after.applied ≡ suc before.applied
@@ -76,7 +84,7 @@ IsFar most feed before after = (after.applied ≡ before.applied + most) ⊎ Has
 
 -- stream s is stopped, or that far
 abbrev pub IsThrough : Fed → ℕ → Gone → ℕ → Type 0
-IsThrough fed most gone s = ((refusal : StepRefusal) × (slice_get gone.stopped s ≡ Some (Some refusal))) ⊎ OfStream (IsFar most) fed.feeds fed.board gone.board s
+IsThrough fed most gone s = IsStoppedIn gone s ⊎ OfStream (IsFar most) fed.feeds fed.board gone.board s
 
 -- each of the first so many streams is
 abbrev pub AreThrough : Fed → ℕ → Gone → ℕ → Type 0
