@@ -3,6 +3,7 @@
 ghost use Rattle.std.specs.Prelude.{◌≡◌, ◌+◌, ◌<◌, ◌≤◌, ◌^◌, [], false, None, Some, Ok, IfOk, IfSome, IsTrue, length, slice_get, slice_set, vec_len};
 ghost use Rattle.std.specs.Arc.{arc_value};
 ghost use Rattle.std.specs.List.{AllByRecursion};
+ghost use Rattle.std.specs.Option.{option_map};
 ghost use Rattle.std.specs.Vec.{vec_capacity};
 ghost use Rattle.stream_core.specs.declared.step.Step as steps;
 ghost use Rattle.source_feed.specs.Touches.{prepared_at};
@@ -86,7 +87,7 @@ fn answer_of(
     stopped: Option<StepRefusal>,
 ) -> Result<bool, StepRefusal>
     requires { s < length board.now.streams }
-    ensures { IfSome (slice_get board.now.streams s) (λ state. AnswersBy feed.now state stopped.entry result) }
+    ensures { IfSome (slice_get board.now.streams s) (λ state. AnswersBy feed.now state stopped result) }
 {
     match stopped {
         Some(refusal) => Err(refusal),
@@ -357,7 +358,7 @@ impl<'h, J: Began> Going<'h, J> {
     /// own. An error is want of memory.
     pub(crate) fn begin(&self, alloc: Global, s: u8) -> Result<(u32, CopyState), AllocError>
         requires { s < length J.fed.feeds }
-        ensures { IfOk result (λ begun. IfSome (slice_get J.fed.board.streams s) (λ state. begun.1 ≡ state.marks)) }
+        ensures { IfOk result (λ begun. option_map (λ state. state.marks) (slice_get J.fed.board.streams s) ≡ Some begun.1) }
     {
         let (Ok(at), Ok(marks)) = (self.board.state(s), self.board.marks(s)) else {
             unreachable!()

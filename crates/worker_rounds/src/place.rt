@@ -1,6 +1,7 @@
 //! What the thread of a stream works with.
 
-ghost use Rattle.std.specs.Prelude.{◌≡◌, ◌<◌, IfSome, length, slice_get};
+ghost use Rattle.std.specs.Prelude.{◌≡◌, ◌<◌, Some, IfSome, length, slice_get};
+ghost use Rattle.std.specs.Option.{option_map};
 ghost use Rattle.std.specs.List.{AllByRecursion};
 ghost use Rattle.worker_rounds.specs.Private.OnRound.{IsReady};
 
@@ -31,7 +32,7 @@ pub(crate) struct Place<'a, 'h, R, J: Began> {
     ghost of_feeds: { feeds.now ≡ J.fed.feeds },
     ghost there: { stream < length J.fed.feeds },
     ghost up_to: { most ≡ J.most },
-    ghost of_marks: { IfSome (slice_get J.fed.board.streams stream) (λ state. marks ≡ state.marks) },
+    ghost of_marks: { option_map (λ state. state.marks) (slice_get J.fed.board.streams stream) ≡ Some marks },
 }
 
 impl<'a, 'h, R: Wait, J: Began> Place<'a, 'h, R, J> {

@@ -172,7 +172,7 @@ fn round_of<'h, J: Began + Send + Sync, R: Threads + Wait + Sync>(
 {
     fed_boards_show_all();
     let going: Mutex<Going<'h, J>> = Mutex::new(Going::new(board, stopped, first));
-    work_all(rt, alloc, &going, feeds, most);
+    work_all(rt, alloc, &going, &*feeds, most);
     let mut going = going.into_inner();
     going.go_through_all(alloc, feeds, most);
     going.into_answers(feeds, answers)
