@@ -1,6 +1,6 @@
 -- Groups that stand ready are offered and applied.
-use Rattle.std.proofs.Common.{◌≡◌, ◌≢◌, ◌⊎◌, inl, inr, ℕ, zero, suc, ◌+◌, ◌<◌, ◌≤◌, Bool, true, false, List, [], ◌∷◌, ◌++◌, length, map, cond, Option, Some, None, Result, Ok, Err, slice_get, refl, sym, ap, subst, ◌∙◌, arith}
-use Rattle.std.proofs.lemmas.Option.{same_Some, none-some}
+use Rattle.std.proofs.Common.{◌≡◌, ◌≢◌, ◌⊎◌, inl, inr, ℕ, zero, suc, ◌+◌, ◌<◌, ◌≤◌, Bool, true, false, List, [], ◌∷◌, ◌++◌, length, map, cond, Option, Some, None, Result, Ok, Err, slice_get, set, refl, sym, ap, subst, ◌∙◌, arith}
+use Rattle.std.proofs.lemmas.Option.{same_Some, none-some, slice_get_within}
 use Rattle.std.specs.Prelude.{IfSome, IsOk, IsSomeAnd, nat_le}
 use Rattle.std.specs.Arc.{arc_value}
 use Rattle.std.specs.Option.{option_map, option_and_then}
@@ -32,15 +32,16 @@ use Rattle.board_laws.specs.StateAfter.{state_after}
 use Rattle.board_laws.specs.Step.{answered, IsMade, IsStep}
 use Rattle.board_laws.specs.Touching.{left_by, passed_by, touch_of}
 use Rattle.board_laws.proofs.Following.{answered_by}
-use Rattle.list_laws.proofs.Places.{slice_get-set_same}
+use Rattle.list_laws.proofs.Places.{place_of, slice_get-set_same}
 use Rattle.apply_core.specs.Putting.{DoAsStep}
 use Rattle.apply_core.proofs.CourseStepsAreAllowed.{of_offer, prepared-plan}
-use Rattle.apply_core.proofs.FedLaws.{plan-of, reply-fed, reply-no_stream}
+use Rattle.apply_core.proofs.FedLaws.{plan-of, reply-fed}
 use Rattle.change_laws.specs.Since.{HasGoneOn, HaveGoneOn, GoesOnBy, HasMoved}
 use Rattle.change_laws.proofs.GoingOn.{moved-goes_on}
 use Rattle.worker_rounds.specs.declared.ready.Ready.{Ready}
 use Rattle.worker_rounds.specs.Private.OnRound.{Gone, IsOnRound, Runs, MayApply, IsStepOn, IsReady, MayTakeIn}
-use Rattle.worker_rounds.proofs.StepsOnRounds.{offer-applies_none}
+use Rattle.worker_rounds.proofs.StepsOnRounds.{Stepped, offer-applies_none, stepped-ok, stepped-err}
+use Rattle.worker_rounds.proofs.StreamsOnRounds.{fed-now}
 
 -- ---- what the board's calls reply
 
@@ -78,11 +79,6 @@ advanced-by feed old new s answer (Err (Core refusal)) h = record { event = adva
 advanced-by feed old new s answer (Err (OwnedByOther key owner)) h = record { event = advance; of_step = refl; stepped = h }
 advanced-by feed old new s answer (Err FeedCount) h = record { event = advance; of_step = refl; stepped = h }
 advanced-by feed old new s answer (Err Memory) h = (h.0, h.1)
-
--- the feed of a stream of which something is so
-the-feed : {P : FeedValue → Type 0} (o : Option FeedValue) → IsSomeAnd o P → (feed : FeedValue) × (o ≡ Some feed) × P feed
-the-feed None h = absurd h
-the-feed (Some feed) h = (feed, refl, h)
 
 module _ (feeds : List FeedValue) (board : Meaning) (fed : IsFedBoard feeds board) (s : ℕ) (feed : FeedValue) (at : slice_get feeds s ≡ Some feed) where
   -- an offer of a group that is prepared of the stream's feed
@@ -173,3 +169,46 @@ module _ (fed : Fed) (most : ℕ) (old new : Gone) (s : ℕ) (ready : Ready) (on
 
   pub puts-there : (first : State) → slice_get fed.board.streams s ≡ Some first → IfSome (slice_get new.board.streams s) (λ state. DoAsStep state advance ready.puts.changes.items)
   puts-there first stood = subst (λ (o : Option State). IfSome o (λ state. DoAsStep state advance ready.puts.changes.items)) (sym has-read) (puts-do first stood)
+
+-- ---- the board's calls on a board on its round
+
+module _ (fed : Fed) (most : ℕ) (old now new : Gone) (s : ℕ) (on : IsOnRound fed most old) (seen : old ≡ now) (runs : Runs now s) (first : new.first ≡ old.first) where
+  -- the feed of a stream that isn't stopped
+  feed-here : (feed : FeedValue) × (slice_get fed.feeds s ≡ Some feed)
+  feed-here =
+      let here : slice_get old.stopped s ≡ Some None = ap (λ (g : Gone). slice_get g.stopped s) seen ∙ runs in
+      let less = slice_get_within old.stopped s None here in
+      place_of fed.feeds s (omega (arith, less, on.count))
+
+  prepared-here : (group : PreparedValue) → IfSome (slice_get fed.feeds s) (λ feed. prepared_at feed group.number ≡ Ok group) → prepared_at feed-here.0 group.number ≡ Ok group
+  prepared-here group h = subst (λ (o : Option FeedValue). IfSome o (λ feed. prepared_at feed group.number ≡ Ok group)) feed-here.1 h
+
+  pub offered-plan : (group : PreparedValue) → IfSome (slice_get fed.feeds s) (λ feed. prepared_at feed group.number ≡ Ok group) → IfSome (slice_get old.board.streams s) (λ state. group.plan ≡ state.plan)
+  offered-plan group h = group-plan fed.feeds old.board (fed-now fed most old on) s feed-here.0 feed-here.1 group (prepared-here group h)
+
+  no-room : (n : ℕ) → Offer n ≡ Advance → MayApply most fed.board now.board s
+  no-room n e = cc
+
+  pub offered-ok : {X : Type 0} (group : PreparedValue) (answer : X → Answer) (r : Result X Refusal) (x : X) → r ≡ Ok x → IfSome (slice_get fed.feeds s) (λ feed. prepared_at feed group.number ≡ Ok group)
+      → IsStep old.board s (offer group) (answered answer r) new.board → new.stopped ≡ old.stopped → Stepped fed most s (Offer group.number) true now new
+  offered-ok group answer r x is h step stopped =
+      stepped-ok fed most old now new s (Offer group.number) fed.feeds (by_board answer r) (answer x) refl (ap (by_board answer) is)
+      (offer-replies fed.feeds old.board (fed-now fed most old on) s feed-here.0 feed-here.1 new.board group answer (prepared-here group h) r step) seen on tt runs (no-room group.number) first stopped
+
+  pub offered-err : {X : Type 0} (group : PreparedValue) (answer : X → Answer) (r : Result X Refusal) (refusal : Refusal) → r ≡ Err refusal → IfSome (slice_get fed.feeds s) (λ feed. prepared_at feed group.number ≡ Ok group)
+      → IsStep old.board s (offer group) (answered answer r) new.board → new.stopped ≡ set old.stopped s (Some (Refused refusal)) → Stepped fed most s (Offer group.number) false now new
+  offered-err group answer r refusal is h step stopped =
+      stepped-err fed most old now new s (Offer group.number) fed.feeds (by_board answer r) (Refused refusal) refl (ap (by_board answer) is)
+      (offer-replies fed.feeds old.board (fed-now fed most old on) s feed-here.0 feed-here.1 new.board group answer (prepared-here group h) r step) seen on tt runs (no-room group.number) first stopped
+
+  pub advanced-ok : {X : Type 0} (answer : X → Answer) (r : Result X Refusal) (x : X) → r ≡ Ok x → MayApply most fed.board now.board s → IsStep old.board s advance (answered answer r) new.board → new.stopped ≡ old.stopped
+      → Stepped fed most s Advance true now new
+  advanced-ok answer r x is room step stopped =
+      stepped-ok fed most old now new s Advance fed.feeds (by_board answer r) (answer x) refl (ap (by_board answer) is)
+      (advance-replies fed.feeds old.board (fed-now fed most old on) s feed-here.0 feed-here.1 new.board answer r step) seen on tt runs (λ e. room) first stopped
+
+  pub advanced-err : {X : Type 0} (answer : X → Answer) (r : Result X Refusal) (refusal : Refusal) → r ≡ Err refusal → MayApply most fed.board now.board s → IsStep old.board s advance (answered answer r) new.board
+      → new.stopped ≡ set old.stopped s (Some (Refused refusal)) → Stepped fed most s Advance false now new
+  advanced-err answer r refusal is room step stopped =
+      stepped-err fed most old now new s Advance fed.feeds (by_board answer r) (Refused refusal) refl (ap (by_board answer) is)
+      (advance-replies fed.feeds old.board (fed-now fed most old on) s feed-here.0 feed-here.1 new.board answer r step) seen on tt runs (λ e. room) first stopped

@@ -216,3 +216,29 @@ aside-trans s a b c one two = record {
 
 pub aside-none : (s : ℕ) (a : Gone) → AreAsideOf s a a
 aside-none s a = record { streams = λ t other. refl; stopped = λ t other. refl }
+
+-- ---- a step, by what it replies
+
+abbrev pub Stepped : Fed → ℕ → ℕ → Step → Bool → Gone → Gone → Type 0
+Stepped fed most s step made now new = IsOnRound fed most new × IsStepOn fed.feeds s step made now new
+
+-- what a step leaves, where what it is told of is the board as it is seen
+stepped : (fed : Fed) (most : ℕ) (old now new : Gone) (s : ℕ) (step : Step) (made : Bool) → old ≡ now → IsOnRound fed most old → GoesOnBy step → Runs now s → (step ≡ Advance → MayApply most fed.board now.board s) → new.first ≡ old.first
+    → IsStepOn fed.feeds s step made old new → Stepped fed most s step made now new
+stepped fed most old now new s step made seen on by_step runs room first h =
+    subst (λ (x : Gone). Runs x s → (step ≡ Advance → MayApply most fed.board x.board s) → Stepped fed most s step made x new) seen
+    (λ runs_here room_here. (on-step fed most old new s step on by_step runs_here room_here first made h, h)) runs room
+
+-- where it is made
+pub stepped-ok : (fed : Fed) (most : ℕ) (old now new : Gone) (s : ℕ) (step : Step) (feeds : List FeedValue) (reply : Reply) (answer : Answer) → feeds ≡ fed.feeds → reply ≡ Ok answer → IsReply feeds old.board (s, step) reply new.board
+    → old ≡ now → IsOnRound fed most old → GoesOnBy step → Runs now s → (step ≡ Advance → MayApply most fed.board now.board s) → new.first ≡ old.first → new.stopped ≡ old.stopped → Stepped fed most s step true now new
+stepped-ok fed most old now new s step feeds reply answer same is h seen on by_step runs room first stopped =
+    stepped fed most old now new s step true seen on by_step runs room first
+    ((answer, subst (λ (r : Reply). IsReply fed.feeds old.board (s, step) r new.board) is (subst (λ (fs : List FeedValue). IsReply fs old.board (s, step) reply new.board) same h)), stopped)
+
+-- where it is refused
+pub stepped-err : (fed : Fed) (most : ℕ) (old now new : Gone) (s : ℕ) (step : Step) (feeds : List FeedValue) (reply : Reply) (refusal : StepRefusal) → feeds ≡ fed.feeds → reply ≡ Err refusal → IsReply feeds old.board (s, step) reply new.board
+    → old ≡ now → IsOnRound fed most old → GoesOnBy step → Runs now s → (step ≡ Advance → MayApply most fed.board now.board s) → new.first ≡ old.first → new.stopped ≡ set old.stopped s (Some refusal) → Stepped fed most s step false now new
+stepped-err fed most old now new s step feeds reply refusal same is h seen on by_step runs room first stopped =
+    stepped fed most old now new s step false seen on by_step runs room first
+    (refusal, subst (λ (r : Reply). IsReply fed.feeds old.board (s, step) r new.board) is (subst (λ (fs : List FeedValue). IsReply fs old.board (s, step) reply new.board) same h), stopped)
