@@ -1,0 +1,2 @@
+mod CellLaws
+pub mod TextLaws
