@@ -1,0 +1,113 @@
+-- Rows of a table, counted by stream among rising entries.
+use Rattle.std.proofs.Common.{◌≡◌, ◌==◌, ℕ, zero, suc, ◌+◌, ◌<◌, ◌≤◌, arith, Bool, true, false, ◌&&◌, cond, List, [], ◌∷◌, length, get_or, set, subst, refl, sym, ap, ◌∙◌}
+use Rattle.std.proofs.lemmas.Bool.{ne_eqb, eqb-true, eqb-refl}
+use Rattle.std.specs.List.{AllByRecursion, filter}
+use Rattle.pk_copy.specs.KeyOrder.{key_cmp}
+use Rattle.pk_copy.specs.KeyValue.{KeyValue}
+use Rattle.target_tables.specs.Rising.{IsRising}
+use Rattle.source_feed.specs.History.{KeptRow}
+use Rattle.board_laws.specs.Meaning.{TargetRows}
+use Rattle.live_session.specs.Counts.{HaveCounted, rows_of}
+use Rattle.live_session.proofs.PageLaws.{Entry, all-later}
+
+-- ---- rows of a stream in a table
+
+-- an entry of another table is none of them
+other-table : (e : Entry) (es : TargetRows) (t s : ℕ) → (e.0.table == t) ≡ false → rows_of (e ∷ es) t s ≡ rows_of es t s
+other-table e es t s other = ap (λ b. cond (b && e.1.0 == s) (e ∷ rows_of es t s) (rows_of es t s)) other
+
+-- one of another stream neither
+other-stream : (e : Entry) (es : TargetRows) (t s : ℕ) → (e.0.table == t) ≡ true → (e.1.0 == s) ≡ false → rows_of (e ∷ es) t s ≡ rows_of es t s
+other-stream e es t s same other = ap (λ b. cond (b && e.1.0 == s) (e ∷ rows_of es t s) (rows_of es t s)) same ∙ ap (λ b. cond b (e ∷ rows_of es t s) (rows_of es t s)) other
+
+own-stream : (e : Entry) (es : TargetRows) (t s : ℕ) → (e.0.table == t) ≡ true → (e.1.0 == s) ≡ true → rows_of (e ∷ es) t s ≡ e ∷ rows_of es t s
+own-stream e es t s same own = ap (λ b. cond (b && e.1.0 == s) (e ∷ rows_of es t s) (rows_of es t s)) same ∙ ap (λ b. cond b (e ∷ rows_of es t s) (rows_of es t s)) own
+
+none-of : (es : TargetRows) (t s : ℕ) → AllByRecursion (λ (e : Entry). (e.0.table == t) ≡ false) es → rows_of es t s ≡ []
+none-of [] t s h = refl
+none-of (e ∷ es) t s h = other-table e es t s h.0 ∙ none-of es t s h.1
+
+pub at-most : (es : TargetRows) (t s : ℕ) → length (rows_of es t s) ≤ length es
+at-most [] t s = omega arith
+at-most (e ∷ es) t s =
+    let rest = at-most es t s in
+    elim (e.0.table == t && e.1.0 == s) as (λ b. length (cond b (e ∷ rows_of es t s) (rows_of es t s)) ≤ suc (length es)) [ true ↦ omega (arith, rest) | false ↦ omega (arith, rest) ]
+
+-- ---- counts
+
+get_or-put : (xs : List ℕ) (s i x : ℕ) → s < length xs → (s == i) ≡ true → get_or (set xs s x) i 0 ≡ x
+get_or-put [] s i x less same = absurd (omega (arith, less))
+get_or-put (y ∷ ys) zero zero x less same = refl
+get_or-put (y ∷ ys) zero (suc i) x less same = cc
+get_or-put (y ∷ ys) (suc s) zero x less same = cc
+get_or-put (y ∷ ys) (suc s) (suc i) x less same = get_or-put ys s i x (omega (arith, less)) same
+
+get_or-other : (xs : List ℕ) (s i x : ℕ) → (s == i) ≡ false → get_or (set xs s x) i 0 ≡ get_or xs i 0
+get_or-other [] s i x other = refl
+get_or-other (y ∷ ys) zero zero x other = cc
+get_or-other (y ∷ ys) zero (suc i) x other = refl
+get_or-other (y ∷ ys) (suc s) zero x other = refl
+get_or-other (y ∷ ys) (suc s) (suc i) x other = get_or-other ys s i x other
+
+length-put : (xs : List ℕ) (s x : ℕ) → length (set xs s x) ≡ length xs
+length-put [] s x = refl
+length-put (y ∷ ys) zero x = refl
+length-put (y ∷ ys) (suc s) x = ap suc (length-put ys s x)
+
+-- what is counted so far, and what is still to be counted among the others, are all
+pub record Goes (initial rest : TargetRows) (t : ℕ) (old now : List ℕ) : Type 0 where
+  pub count : length now ≡ length old
+  pub each : (s : ℕ) → s < length old → get_or now s 0 + length (rows_of rest t s) ≡ get_or old s 0 + length (rows_of initial t s)
+
+pub goes-none : (rows : TargetRows) (t : ℕ) (counts : List ℕ) → Goes rows rows t counts counts
+goes-none rows t counts = record { count = refl; each = λ s less. refl }
+
+module _ (initial es rest : TargetRows) (e : Entry) (t : ℕ) (old now : List ℕ) (parts : es ≡ e ∷ rest) where
+  pub goes-skip : (e.0.table == t) ≡ false → Goes initial es t old now → Goes initial rest t old now
+  goes-skip other so_far = record {
+    count = so_far.count;
+    each = λ s less.
+        let eq : length (rows_of es t s) ≡ length (rows_of rest t s) = ap (λ (all : TargetRows). length (rows_of all t s)) parts ∙ ap length (other-table e rest t s other) in
+        let before = so_far.each s less in
+        omega (arith, eq, before);
+  }
+
+  one-more : (s : ℕ) (b : Bool) → (e.1.0 == s) ≡ b → (e.0.table == t) ≡ true → s < length old → Goes initial es t old now → get_or (set now e.1.0 (get_or now e.1.0 0 + 1)) s 0 + length (rows_of rest t s) ≡ get_or old s 0 + length (rows_of initial t s)
+  one-more s false is same less so_far =
+      let eq : length (rows_of es t s) ≡ length (rows_of rest t s) = ap (λ (all : TargetRows). length (rows_of all t s)) parts ∙ ap length (other-stream e rest t s same is) in
+      let kept = get_or-other now e.1.0 s (get_or now e.1.0 0 + 1) is in
+      let before = so_far.each s less in
+      omega (arith, eq, kept, before)
+  one-more s true is same less so_far =
+      let eq : length (rows_of es t s) ≡ suc (length (rows_of rest t s)) = ap (λ (all : TargetRows). length (rows_of all t s)) parts ∙ ap length (own-stream e rest t s same is) in
+      let at : e.1.0 ≡ s = eqb-true e.1.0 s is in
+      let within : e.1.0 < length now = omega (arith, at, less, so_far.count) in
+      let put = get_or-put now e.1.0 s (get_or now e.1.0 0 + 1) within is in
+      let there : get_or now e.1.0 0 ≡ get_or now s 0 = ap (λ n. get_or now n 0) at in
+      let before = so_far.each s less in
+      omega (arith, eq, put, there, before)
+
+  pub goes-one : (counted : List ℕ) → counted ≡ set now e.1.0 (get_or now e.1.0 0 + 1) → (e.0.table == t) ≡ true → Goes initial es t old now → Goes initial rest t old counted
+  goes-one counted is same so_far =
+      subst (λ (counts : List ℕ). Goes initial rest t old counts) (sym is) (record {
+        count = length-put now e.1.0 (get_or now e.1.0 0 + 1) ∙ so_far.count;
+        each = λ s less. one-more s (e.1.0 == s) refl same less so_far;
+      })
+
+  pub goes-later : t < e.0.table → IsRising key_cmp es → Goes initial es t old now → HaveCounted initial t old now
+  goes-later later rising so_far = record {
+    count = so_far.count;
+    each = λ s less.
+        let none : length (rows_of es t s) ≡ 0 = ap (λ (all : TargetRows). length (rows_of all t s)) parts ∙ ap length (none-of (e ∷ rest) t s (all-later e rest t later (subst (λ (all : TargetRows). IsRising key_cmp all) parts rising))) in
+        let before = so_far.each s less in
+        omega (arith, none, before);
+  }
+
+pub goes-end : (initial es : TargetRows) (t : ℕ) (old now : List ℕ) → es ≡ [] → Goes initial es t old now → HaveCounted initial t old now
+goes-end initial es t old now empty so_far = record {
+  count = so_far.count;
+  each = λ s less.
+      let none : length (rows_of es t s) ≡ 0 = ap (λ (all : TargetRows). length (rows_of all t s)) empty in
+      let before = so_far.each s less in
+      omega (arith, none, before);
+}

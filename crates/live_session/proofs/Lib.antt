@@ -1,0 +1,4 @@
+pub mod PageLaws
+pub mod CountLaws
+pub mod GrowthLaws
+pub mod TurnLaws

@@ -1,0 +1,66 @@
+//! What a session knows of a stream's feed, beside its bytes and groups.
+
+ghost use Rattle.std.specs.Prelude.{◌≡◌, IfOk, length, map};
+ghost use Rattle.std.specs.List.{replicate};
+ghost use Rattle.live_session.specs.Stops.{lasts, fresh_seat};
+
+use crate::arrivals::ArrivalFault;
+use board_laws::StepRefusal;
+use source_feed::FeedFault;
+use std::alloc::{AllocError, Global};
+
+/// Why a stream's feed doesn't grow.
+#[derive(Drop)]
+pub enum Stopped {
+    /// Its bytes don't come.
+    File(ArrivalFault),
+    /// They aren't taken.
+    Bytes(FeedFault),
+}
+
+/// What a session knows of a stream's feed, beside its bytes and groups.
+#[derive(Drop)]
+pub struct Seat<'h> {
+    /// a piece that wanted memory, to be taken before any other
+    pub(crate) kept: Option<&'h [u8]>,
+    /// how many bytes have come and aren't taken
+    pub(crate) tail: u64,
+    /// why the feed doesn't grow
+    pub(crate) stopped: Option<Stopped>,
+    /// why the stream's last step was refused
+    pub(crate) step: Option<StepRefusal>,
+}
+
+impl Stopped {
+    /// Whether it is for good: another file, or bytes at fault. Else it is tried again.
+    pub(crate) fn lasts(&self) -> bool
+        ensures { result ≡ lasts self.now }
+    {
+        match self {
+            Stopped::File(fault) => matches!(fault, ArrivalFault::OtherFile),
+            Stopped::Bytes(fault) => !matches!(fault, FeedFault::Memory),
+        }
+    }
+}
+
+impl<'h> Seat<'h> {
+    /// Of a feed of which so many bytes have come and aren't taken.
+    pub(crate) fn new(tail: u64) -> Seat<'h>
+        ensures { result ≡ fresh_seat tail }
+    {
+        Seat {
+            kept: None,
+            tail,
+            stopped: None,
+            step: None,
+        }
+    }
+
+    /// Whether its feed doesn't grow any more.
+    pub(crate) fn is_closed(&self) -> bool {
+        match &self.stopped {
+            None => false,
+            Some(stopped) => stopped.lasts(),
+        }
+    }
+}

@@ -1,0 +1,91 @@
+//! The loop of a session.
+
+ghost use Rattle.std.specs.Prelude.{◌≡◌, IfOk, IfErr, OnOk, length};
+ghost use Rattle.live_core.specs.Live.{IsLive};
+ghost use Rattle.live_session.specs.Sessions.{session_of};
+ghost use Rattle.live_session.specs.Turns.{IsServed, IsTurned, stand_of};
+
+use crate::answer::answer;
+use crate::arrivals::Arrivals;
+use crate::seat::Seat;
+use live_core::Live;
+use live_requests::{Found, Lines, Request, read_request};
+use printing::{Out, OutFailed};
+use std::alloc::Global;
+use std::io::Read;
+use std::sync::Wait;
+
+/// Why a session ends but by its input's end or `end`.
+#[derive(Clone, Copy, Debug, PartialEq, Eq)]
+pub enum ServeFault {
+    /// A request can't be read (131).
+    CannotRead,
+    /// An answer can't be written (132).
+    CannotWrite,
+    /// No memory for a line (72).
+    Memory,
+}
+
+impl ServeFault {
+    /// The fault's number.
+    pub fn number(self) -> u8 {
+        match self {
+            ServeFault::CannotRead => 131,
+            ServeFault::CannotWrite => 132,
+            ServeFault::Memory => 72,
+        }
+    }
+}
+
+/// Takes the next line and answers it: whether the session goes on.
+fn turn<'h, R: Wait, A: Arrivals<'h>, I: Read, O: Out>(
+    rt: &R,
+    alloc: Global,
+    live: &mut Live<'h>,
+    seats: &mut [Seat<'h>],
+    arrivals: &mut A,
+    lines: &mut Lines,
+    input: &mut I,
+    out: &mut O,
+) -> Result<bool, ServeFault>
+    requires { length seats.old ≡ length live.old.fed.feeds }
+    ensures turned { IfOk result (IsTurned (stand_of (I.remaining input.old) (session_of live.old seats.old) (O.written out.old)) (stand_of (I.remaining input.new) (session_of live.new seats.new) (O.written out.new))) }
+    ensures seats { length seats.new ≡ length live.new.fed.feeds }
+{
+    let request = match lines.next(input) {
+        Err(_) => return Err(ServeFault::CannotRead),
+        Ok(Found::End) => return Ok(false),
+        Ok(Found::Long) => None,
+        Ok(Found::Line) => read_request(lines.line()),
+    };
+    let goes_on = !matches!(request, Some(Request::End));
+    match answer(rt, alloc, live, seats, arrivals, request, out) {
+        Err(OutFailed) => Err(ServeFault::CannotWrite),
+        Ok(()) => Ok(goes_on),
+    }
+}
+
+/// Answers the requests of an input, a line each, until it ends or `end` is asked.
+pub(crate) fn serve_all<'h, R: Wait, A: Arrivals<'h>, I: Read, O: Out>(
+    rt: &R,
+    alloc: Global,
+    live: &mut Live<'h>,
+    seats: &mut [Seat<'h>],
+    arrivals: &mut A,
+    input: &mut I,
+    out: &mut O,
+) -> Result<(), ServeFault>
+    requires { length seats.old ≡ length live.old.fed.feeds }
+    ensures served { OnOk result (IsServed (stand_of (I.remaining input.old) (session_of live.old seats.old) (O.written out.old)) (stand_of (I.remaining input.new) (session_of live.new seats.new) (O.written out.new))) }
+    ensures seats { length seats.new ≡ length live.new.fed.feeds }
+{
+    let Ok(mut lines) = Lines::new(alloc) else {
+        return Err(ServeFault::Memory);
+    };
+    for _ in rt.forever() {
+        if !turn(rt, alloc, live, seats, arrivals, &mut lines, input, out)? {
+            return Ok(());
+        }
+    }
+    unreachable!()
+}
