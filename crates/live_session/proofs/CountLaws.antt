@@ -1,6 +1,6 @@
 -- Rows of a table, counted by stream among rising entries.
-use Rattle.std.proofs.Common.{◌≡◌, ◌==◌, ℕ, zero, suc, ◌+◌, ◌<◌, ◌≤◌, arith, Bool, true, false, ◌&&◌, cond, List, [], ◌∷◌, length, get_or, set, subst, refl, sym, ap, ◌∙◌}
-use Rattle.std.proofs.lemmas.Bool.{ne_eqb, eqb-true, eqb-refl}
+use Rattle.std.proofs.Common.{◌≡◌, ◌≢◌, ◌==◌, ℕ, zero, suc, ◌+◌, ◌<◌, ◌≤◌, arith, Bool, true, false, ◌&&◌, cond, List, [], ◌∷◌, length, get_or, set, subst, refl, sym, ap, eq-eqb, ◌∙◌}
+use Rattle.std.proofs.lemmas.Bool.{eqb-true, true≢false}
 use Rattle.std.specs.List.{AllByRecursion, filter}
 use Rattle.pk_copy.specs.KeyOrder.{key_cmp}
 use Rattle.pk_copy.specs.KeyValue.{KeyValue}
@@ -35,19 +35,17 @@ at-most (e ∷ es) t s =
 
 -- ---- counts
 
-get_or-put : (xs : List ℕ) (s i x : ℕ) → s < length xs → (s == i) ≡ true → get_or (set xs s x) i 0 ≡ x
-get_or-put [] s i x less same = absurd (omega (arith, less))
-get_or-put (y ∷ ys) zero zero x less same = refl
-get_or-put (y ∷ ys) zero (suc i) x less same = cc
-get_or-put (y ∷ ys) (suc s) zero x less same = cc
-get_or-put (y ∷ ys) (suc s) (suc i) x less same = get_or-put ys s i x (omega (arith, less)) same
+get_or-put : (xs : List ℕ) (i x : ℕ) → i < length xs → get_or (set xs i x) i 0 ≡ x
+get_or-put [] i x less = absurd (omega (arith, less))
+get_or-put (y ∷ ys) zero x less = refl
+get_or-put (y ∷ ys) (suc i) x less = get_or-put ys i x (omega (arith, less))
 
-get_or-other : (xs : List ℕ) (s i x : ℕ) → (s == i) ≡ false → get_or (set xs s x) i 0 ≡ get_or xs i 0
+get_or-other : (xs : List ℕ) (s i x : ℕ) → s ≢ i → get_or (set xs s x) i 0 ≡ get_or xs i 0
 get_or-other [] s i x other = refl
-get_or-other (y ∷ ys) zero zero x other = cc
+get_or-other (y ∷ ys) zero zero x other = absurd (other refl)
 get_or-other (y ∷ ys) zero (suc i) x other = refl
 get_or-other (y ∷ ys) (suc s) zero x other = refl
-get_or-other (y ∷ ys) (suc s) (suc i) x other = get_or-other ys s i x other
+get_or-other (y ∷ ys) (suc s) (suc i) x other = get_or-other ys s i x (λ e. other (ap suc e))
 
 length-put : (xs : List ℕ) (s x : ℕ) → length (set xs s x) ≡ length xs
 length-put [] s x = refl
@@ -75,14 +73,15 @@ module _ (initial es rest : TargetRows) (e : Entry) (t : ℕ) (old now : List �
   one-more : (s : ℕ) (b : Bool) → (e.1.0 == s) ≡ b → (e.0.table == t) ≡ true → s < length old → Goes initial es t old now → get_or (set now e.1.0 (get_or now e.1.0 0 + 1)) s 0 + length (rows_of rest t s) ≡ get_or old s 0 + length (rows_of initial t s)
   one-more s false is same less so_far =
       let eq : length (rows_of es t s) ≡ length (rows_of rest t s) = ap (λ (all : TargetRows). length (rows_of all t s)) parts ∙ ap length (other-stream e rest t s same is) in
-      let kept = get_or-other now e.1.0 s (get_or now e.1.0 0 + 1) is in
+      let kept = get_or-other now e.1.0 s (get_or now e.1.0 0 + 1) (λ own. true≢false (sym (eq-eqb e.1.0 s own) ∙ is)) in
       let before = so_far.each s less in
       omega (arith, eq, kept, before)
   one-more s true is same less so_far =
       let eq : length (rows_of es t s) ≡ suc (length (rows_of rest t s)) = ap (λ (all : TargetRows). length (rows_of all t s)) parts ∙ ap length (own-stream e rest t s same is) in
       let at : e.1.0 ≡ s = eqb-true e.1.0 s is in
       let within : e.1.0 < length now = omega (arith, at, less, so_far.count) in
-      let put = get_or-put now e.1.0 s (get_or now e.1.0 0 + 1) within is in
+      let put : get_or (set now e.1.0 (get_or now e.1.0 0 + 1)) s 0 ≡ get_or now e.1.0 0 + 1 =
+          subst (λ (i : ℕ). get_or (set now e.1.0 (get_or now e.1.0 0 + 1)) i 0 ≡ get_or now e.1.0 0 + 1) at (get_or-put now e.1.0 (get_or now e.1.0 0 + 1) within) in
       let there : get_or now e.1.0 0 ≡ get_or now s 0 = ap (λ n. get_or now n 0) at in
       let before = so_far.each s less in
       omega (arith, eq, put, there, before)

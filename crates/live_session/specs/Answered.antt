@@ -8,7 +8,6 @@ use Rattle.board_laws.specs.Meaning.{Meaning, TargetRows}
 use Rattle.board_laws.specs.declared.step_refusal.StepRefusal.{StepRefusal}
 use Rattle.checkpoint_laws.specs.Written.{checkpoint_of}
 use Rattle.printing.specs.Printing.{Prints, Written}
-use Rattle.printing.specs.declared.writer.OutFailed.{OutFailed}
 use Rattle.change_laws.specs.Changes.{LeadOn, changes_in}
 use Rattle.change_laws.specs.Since.{HasMoved}
 use Rattle.change_laws.specs.declared.changed_keys.ChangedKeys.{ChangedKeys}
@@ -158,6 +157,6 @@ IsAnswer (Some asked) old text new = IsAnsweredAs asked old text new ⊎ (IsLeft
 -- ---- what a call that answers leaves on its output
 
 -- a text of this kind was printed, or there was want of memory and nothing was
-abbrev pub Answers : (List ℕ → Type 0) → Result (Result Unit OutFailed) AllocError → Written → Written → Type 0
+abbrev pub Answers : {X E F : Type 0} → (List ℕ → Type 0) → Result (Result X E) F → Written → Written → Type 0
 Answers Is (Ok printed) old new = (text : List ℕ) × Is text × Prints printed old new text
 Answers Is (Err _) old new = new ≡ old

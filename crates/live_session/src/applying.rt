@@ -1,6 +1,6 @@
-//! Streams that go on, and what is noted of them.
+//! What is noted of streams that go on.
 
-ghost use Rattle.std.specs.Prelude.{◌≡◌, length, Bool};
+ghost use Rattle.std.specs.Prelude.{◌≡◌, length};
 ghost use Rattle.live_session.specs.Answered.{AreNoted, noted};
 
 use crate::seat::Seat;
@@ -21,9 +21,10 @@ pub(crate) fn note(seats: &mut [Seat<'_>], answers: Vec<Result<bool, StepRefusal
     requires { length answers.items ≡ length seats.old }
     ensures { AreNoted answers.entry.items seats.new }
 {
-    let mut s = 0;
-    for answer in answers {
+    let mut answers = answers;
+    let mut s = seats.len();
+    while let Some(answer) = answers.pop() {
+        s -= 1;
         note_one(&mut seats[s], answer);
-        s += 1;
     }
 }
