@@ -1,5 +1,5 @@
 -- The turns of a session: a line is taken off the input, and answered on the output (this profile).
-use Rattle.std.specs.Prelude.{◌≡◌, ◌⊎◌, ℕ, List, [], ◌∷◌, Bool, true, false, Option, None, Some, option_map}
+use Rattle.std.specs.Prelude.{◌≡◌, ◌≢◌, ◌⊎◌, ℕ, List, [], ◌∷◌, Bool, true, false, Option, None, Some}
 use Rattle.printing.specs.Printing.{IsWritten, Written}
 use Rattle.live_requests.specs.Lines.{IsFound}
 use Rattle.live_requests.specs.Requests.{Asked, last, request_in}
@@ -7,6 +7,14 @@ use Rattle.live_requests.specs.declared.lines.Found.{Found}
 use Rattle.live_requests.specs.declared.lines.Found.TheVariants.{Line, Long, End}
 use Rattle.live_session.specs.Answered.{IsAnswer}
 use Rattle.live_session.specs.Sessions.{SessionValue}
+use Rattle.live_session.specs.declared.serve.ServeFault.{ServeFault}
+use Rattle.live_session.specs.declared.serve.ServeFault.TheVariants as serve
+
+-- why a session is broken off
+abbrev pub number_of_serve : ServeFault → ℕ
+number_of_serve serve.CannotRead = 131
+number_of_serve serve.CannotWrite = 132
+number_of_serve serve.Memory = 72
 
 -- what is left of the input, as far as it is known; the session; and what the output has taken
 pub record Stand : Type 0 where

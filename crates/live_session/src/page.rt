@@ -1,6 +1,8 @@
 //! Rows of a table, page by page.
 
-ghost use Rattle.std.specs.Prelude.{◌≡◌, ◌×◌, ◌+◌, ◌≤◌, IfOk, length, map, take};
+ghost use Rattle.std.specs.Prelude.{◌≡◌, ◌×◌, ◌+◌, ◌≤◌, false, [], IfOk, length, map, take};
+ghost use Rattle.std.specs.Ordering.{is_lt};
+ghost use Rattle.pk_copy.specs.KeyValue.{KeyValue};
 ghost use Rattle.std.specs.Option.{option_copied};
 ghost use Rattle.pk_copy.specs.KeyOrder.{key_cmp};
 ghost use Rattle.target_tables.specs.Contents.{entry};
@@ -81,7 +83,9 @@ pub(crate) fn page_from<'b>(
 
 /// The key from which all rows of a table come: it has no parts. An error is want of memory.
 pub(crate) fn first_key(alloc: Global, table: u8) -> Result<Key, AllocError>
-    ensures { IfOk result (λ key. key ≡ record { table = table; parts = [] }) }
+    ensures key { IfOk result (λ key. key ≡ record { table = table; parts = [] }) }
+    // No key of the table is less.
+    ensures least { IfOk result (λ first. (key : KeyValue) → key.table ≡ table → is_lt (key_cmp key first) ≡ false) }
 {
     Key::from_view(alloc, &LentKey::first_of(alloc, table).view())
 }

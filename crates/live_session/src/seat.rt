@@ -1,13 +1,12 @@
 //! What a session knows of a stream's feed, beside its bytes and groups.
 
-ghost use Rattle.std.specs.Prelude.{◌≡◌, IfOk, length, map};
-ghost use Rattle.std.specs.List.{replicate};
+ghost use Rattle.std.specs.Prelude.{◌≡◌, false};
+ghost use Rattle.std.specs.Option.{option_map_or};
 ghost use Rattle.live_session.specs.Stops.{lasts, fresh_seat};
 
 use crate::arrivals::ArrivalFault;
 use board_laws::StepRefusal;
 use source_feed::FeedFault;
-use std::alloc::{AllocError, Global};
 
 /// Why a stream's feed doesn't grow.
 #[derive(Drop)]
@@ -57,7 +56,9 @@ impl<'h> Seat<'h> {
     }
 
     /// Whether its feed doesn't grow any more.
-    pub(crate) fn is_closed(&self) -> bool {
+    pub(crate) fn is_closed(&self) -> bool
+        ensures { result ≡ option_map_or lasts self.now.stopped false }
+    {
         match &self.stopped {
             None => false,
             Some(stopped) => stopped.lasts(),

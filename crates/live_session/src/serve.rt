@@ -3,7 +3,7 @@
 ghost use Rattle.std.specs.Prelude.{◌≡◌, IfOk, IfErr, OnOk, length};
 ghost use Rattle.live_core.specs.Live.{IsLive};
 ghost use Rattle.live_session.specs.Sessions.{session_of};
-ghost use Rattle.live_session.specs.Turns.{IsServed, IsTurned, stand_of};
+ghost use Rattle.live_session.specs.Turns.{IsServed, IsTurned, number_of_serve, stand_of};
 
 use crate::answer::answer;
 use crate::arrivals::Arrivals;
@@ -28,7 +28,9 @@ pub enum ServeFault {
 
 impl ServeFault {
     /// The fault's number.
-    pub fn number(self) -> u8 {
+    pub fn number(self) -> u8
+        ensures { result ≡ number_of_serve self }
+    {
         match self {
             ServeFault::CannotRead => 131,
             ServeFault::CannotWrite => 132,

@@ -1,10 +1,13 @@
 -- What the command `live` does (this profile).
-use Rattle.std.specs.Prelude.{◌≡◌, ℕ, List, Option, map, option_map}
+use Rattle.std.specs.Prelude.{◌≡◌, ◌⊎◌, ℕ, List, Option, codes, map, option_map}
 use Rattle.printing.specs.Printing.{Written}
 use Rattle.vrepl_main.specs.declared.following.Unfollowed.{Unfollowed}
 use Rattle.vrepl_main.specs.declared.following.Unfollowed.TheVariants as unfollowed
 use Rattle.vrepl_main.specs.declared.refusal.CommandRefusal.{CommandRefusal}
 use Rattle.vrepl_main.specs.declared.refusal.CommandRefusal.TheVariants as command
+use Rattle.vrepl_main.specs.Followed.{follow_refusal_line}
+use Rattle.vrepl_main.specs.Printing.{PrintsOrBreaks}
+use Rattle.vrepl_main.specs.Refusals.{refusal_line}
 use Rattle.live_core.specs.Live.{LiveValue}
 use Rattle.live_opening.specs.Opened.{IsOpened, IsUnopened}
 use Rattle.live_opening.specs.declared.unopened.Unopened.{Unopened}
@@ -25,6 +28,13 @@ as_unfollowed (Feed fault) = unfollowed.Given (command.Feed fault)
 as_unfollowed (Checkpoint plan fault) = unfollowed.Checkpoint plan fault
 as_unfollowed (Stream plan refusal) = unfollowed.Stream plan refusal
 as_unfollowed Memory = unfollowed.Given command.Memory
+
+-- why a session ended before its input and without `end`, of the file `-`
+abbrev pub IsOfFault : ServeFault → CommandRefusal → Type 0
+IsOfFault serve.CannotRead (command.CannotRead file) = file.now ≡ codes "-"
+IsOfFault serve.CannotWrite (command.CannotWrite file) = file.now ≡ codes "-"
+IsOfFault serve.Memory command.Memory = Unit {0}
+IsOfFault fault refusal = ⊥
 
 -- ---- the board
 
@@ -49,3 +59,9 @@ pub record HasLived (inputs : LiveInputs) (input : Option (List ℕ)) (output : 
   pub opened : IsOpenedBy inputs start.live
   pub end : SessionValue
   pub served : IsServed (stand_of input start output) (stand_of left end written)
+
+-- There is no board to start from, or the session was broken off: the line says why.
+abbrev pub HasRefused : LiveInputs → Written → Written → Type 0
+HasRefused inputs old new =
+    ((unopened : Unopened) × IsUnopenedBy inputs unopened × PrintsOrBreaks old new (follow_refusal_line (as_unfollowed unopened)))
+    ⊎ ((fault : ServeFault) × (refusal : CommandRefusal) × IsOfFault fault refusal × PrintsOrBreaks old new (refusal_line refusal))

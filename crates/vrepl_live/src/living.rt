@@ -1,8 +1,7 @@
 //! The subcommand `live`.
 
-ghost use Rattle.std.specs.Prelude.{◌≡◌, ◌≤◌, IfOk, IfErr};
-ghost use Rattle.live_session.specs.Turns.{stand_of};
-ghost use Rattle.vrepl_live.specs.Living.{HasLived, IsOpenedBy, IsUnopenedBy};
+ghost use Rattle.std.specs.Prelude.{◌≡◌, ◌≢◌, ◌≤◌, IfOk, IfErr};
+ghost use Rattle.vrepl_live.specs.Living.{HasLived, HasRefused, IsOpenedBy, IsUnopenedBy};
 
 use crate::refusing::{as_unfollowed, fault_refusal};
 use apply_core::Policy;
@@ -59,6 +58,7 @@ pub fn live<'h, R: Wait, A: Arrivals<'h>, I: Read, W: Out, E: Out>(
     ensures status { result ≤ 1 }
     // With status 0 each line of the input was answered, in order, from the board that the inputs make on.
     ensures lived { result ≡ 0 → HasLived inputs.now (I.remaining input.old) (W.written out.old) (I.remaining input.new) (W.written out.new) }
+    ensures refused { result ≢ 0 → HasRefused inputs.now (E.written err.old) (E.written err.new) }
     ensures quiet { result ≡ 0 → err.new ≡ err.old }
 {
     let mut session = match open_session(alloc, inputs) {

@@ -1,7 +1,7 @@
 //! The lines of refusals.
 
 ghost use Rattle.std.specs.Prelude.{◌≡◌};
-ghost use Rattle.vrepl_live.specs.Living.{as_unfollowed, fault_refusal};
+ghost use Rattle.vrepl_live.specs.Living.{IsOfFault, as_unfollowed};
 
 use live_opening::Unopened;
 use live_session::ServeFault;
@@ -23,7 +23,7 @@ pub(crate) fn as_unfollowed(unopened: Unopened) -> Unfollowed
 
 /// Why a session ended before its input and without `end`.
 pub(crate) fn fault_refusal(fault: ServeFault) -> CommandRefusal<'static>
-    ensures { result ≡ fault_refusal fault }
+    ensures { IsOfFault fault result }
 {
     match fault {
         ServeFault::CannotRead => CommandRefusal::CannotRead { file: "-" },
