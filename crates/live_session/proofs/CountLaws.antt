@@ -85,7 +85,7 @@ module _ (initial es rest : TargetRows) (e : Entry) (t : ℕ) (old now : List �
       let at : e.1.0 ≡ s = eqb-true e.1.0 s is in
       let within : e.1.0 < length now = omega (arith, at, less, so_far.count) in
       let put : get_or (set now e.1.0 (get_or now e.1.0 0 + 1)) s 0 ≡ get_or now e.1.0 0 + 1 =
-          subst (λ (i : ℕ). get_or (set now e.1.0 (get_or now e.1.0 0 + 1)) i 0 ≡ get_or now e.1.0 0 + 1) at (get_or-put now e.1.0 (get_or now e.1.0 0 + 1) within) in
+      subst (λ (i : ℕ). get_or (set now e.1.0 (get_or now e.1.0 0 + 1)) i 0 ≡ get_or now e.1.0 0 + 1) at (get_or-put now e.1.0 (get_or now e.1.0 0 + 1) within) in
       let there : get_or now e.1.0 0 ≡ get_or now s 0 = ap (λ n. get_or now n 0) at in
       let before = so_far.each s less in
       omega (arith, eq, put, there, before)

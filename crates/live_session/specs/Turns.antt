@@ -31,13 +31,22 @@ asked_by Line line = request_in line
 asked_by Long line = None
 asked_by End line = None
 
--- A line is taken off the input, and its answer is written.
-pub record IsTurn (asked : Option Asked) (old new : Stand) : Type 0 where
+-- a line is taken off the input, and asks for this or for nothing
+pub record IsLineTaken (old new : Option (List ℕ)) (asked : Option Asked) : Type 0 where
   pub found : Found
   pub line : List ℕ
-  pub taken : IsFound old.input new.input found line
+  pub taken : IsFound old new found line
   pub more : found ≢ End
   pub request : asked ≡ asked_by found line
+
+-- what comes next in the input: a line, or its end
+abbrev pub IsNext : Option (List ℕ) → Option (List ℕ) → Option (Option Asked) → Type 0
+IsNext old new None = (line : List ℕ) × IsFound old new End line
+IsNext old new (Some asked) = IsLineTaken old new asked
+
+-- A line is taken off the input, and its answer is written.
+pub record IsTurn (asked : Option Asked) (old new : Stand) : Type 0 where
+  pub taken : IsLineTaken old.input new.input asked
   pub text : List ℕ
   pub answer : IsAnswer asked old.session text new.session
   pub written : IsWritten old.output new.output text
@@ -54,15 +63,15 @@ is_last asked = false
 
 -- the input has ended, and nothing else has happened
 pub record HasEnded (old new : Stand) : Type 0 where
-  pub line : List ℕ
-  pub at_end : IsFound old.input new.input End line
+  pub at_end : IsNext old.input new.input None
   pub session : new.session ≡ old.session
   pub output : new.output ≡ old.output
 
--- One turn was taken and the session goes on; or it has ended, by its input's end or by `end`.
+-- the input has ended, or `end` was asked and answered
 abbrev pub HasFinished : Stand → Stand → Type 0
-HasFinished old new = HasEnded old new ⊎ IsTurn (Some last) old new
+HasFinished old new = HasEnded old new ⊎ ((asked : Option Asked) × IsTurn asked old new × (is_last asked ≡ true))
 
+-- one turn was taken, and the session goes on; or it has finished
 abbrev pub IsTurned : Stand → Stand → Bool → Type 0
 IsTurned old new true = (asked : Option Asked) × IsTurn asked old new
 IsTurned old new false = HasFinished old new

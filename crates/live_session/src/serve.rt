@@ -1,9 +1,9 @@
 //! The loop of a session.
 
-ghost use Rattle.std.specs.Prelude.{◌≡◌, IfOk, IfErr, OnOk, length};
-ghost use Rattle.live_core.specs.Live.{IsLive};
+ghost use Rattle.std.specs.Prelude.{◌≡◌, IfOk, OnOk, length, not, option_map};
+ghost use Rattle.live_requests.specs.Requests.{request_value};
 ghost use Rattle.live_session.specs.Sessions.{session_of};
-ghost use Rattle.live_session.specs.Turns.{IsServed, IsTurned, number_of_serve, stand_of};
+ghost use Rattle.live_session.specs.Turns.{IsNext, IsServed, IsTurned, is_last, number_of_serve, stand_of};
 
 use crate::answer::answer;
 use crate::arrivals::Arrivals;
@@ -39,6 +39,28 @@ impl ServeFault {
     }
 }
 
+/// What the next line asks for, if it is a request; nothing at the input's end.
+fn next_request<'l, I: Read>(
+    lines: &'l mut Lines,
+    input: &mut I,
+) -> Result<Option<Option<Request<'l>>>, ServeFault>
+    ensures { IfOk result (λ next. IsNext (I.remaining input.old) (I.remaining input.new) (option_map (λ asked. option_map request_value asked) next)) }
+{
+    match lines.next(input) {
+        Err(_) => Err(ServeFault::CannotRead),
+        Ok(Found::End) => Ok(None),
+        Ok(Found::Long) => Ok(Some(None)),
+        Ok(Found::Line) => Ok(Some(read_request(lines.line()))),
+    }
+}
+
+/// Whether a session goes on behind a request.
+fn goes_on(request: Option<Request<'_>>) -> bool
+    ensures { result ≡ not (is_last (option_map request_value request.entry)) }
+{
+    !matches!(request, Some(Request::End))
+}
+
 /// Takes the next line and answers it: whether the session goes on.
 fn turn<'h, R: Wait, A: Arrivals<'h>, I: Read, O: Out>(
     rt: &R,
@@ -54,16 +76,12 @@ fn turn<'h, R: Wait, A: Arrivals<'h>, I: Read, O: Out>(
     ensures turned { IfOk result (IsTurned (stand_of (I.remaining input.old) (session_of live.old seats.old) (O.written out.old)) (stand_of (I.remaining input.new) (session_of live.new seats.new) (O.written out.new))) }
     ensures seats { length seats.new ≡ length live.new.fed.feeds }
 {
-    let request = match lines.next(input) {
-        Err(_) => return Err(ServeFault::CannotRead),
-        Ok(Found::End) => return Ok(false),
-        Ok(Found::Long) => None,
-        Ok(Found::Line) => read_request(lines.line()),
+    let Some(request) = next_request(lines, input)? else {
+        return Ok(false);
     };
-    let goes_on = !matches!(request, Some(Request::End));
     match answer(rt, alloc, live, seats, arrivals, request, out) {
         Err(OutFailed) => Err(ServeFault::CannotWrite),
-        Ok(()) => Ok(goes_on),
+        Ok(()) => Ok(goes_on(request)),
     }
 }
 

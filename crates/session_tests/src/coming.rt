@@ -11,6 +11,7 @@ use std::io::Cursor;
 use std::sync::Wait;
 
 /// A feed of which so many bytes have come at each look.
+#[derive(Drop)]
 struct Coming<'h> {
     feed: &'h [u8],
     seen: &'h [usize],
