@@ -33,7 +33,7 @@ pub(crate) fn board_over<'h>(
     requires few { length plans.items ≤ 64 }
     ensures feeds { IfOk result (λ fed. fed.feeds ≡ feeds.entry.items) }
     ensures taken_up { IfOk result (λ _. IsTakenUp feeds.entry.items (option_map (λ bytes. bytes.now) checkpoint.entry)) }
-    ensures refused { IfErr result (HasNoBoard (map arc_value plans.entry.items) feeds.entry.items (option_map (λ bytes. bytes.now) checkpoint.entry)) }
+    ensures refused { IfErr result (HasNoBoard (map arc_value plans.items) feeds.entry.items (option_map (λ bytes. bytes.now) checkpoint.entry)) }
 {
     let plan = first_plan(&plans)?;
     let Some(bytes) = checkpoint else {

@@ -28,7 +28,7 @@ fn start<'h>(
     requires count { length begun.sources.items ≡ length begun.feeds.items }
     requires sources { AreOfSources begun.feeds.items begun.sources.items }
     ensures started { IfOk result (HasStarted begun.entry.feeds.items (map bytes_of begun.entry.sources.items) (option_map (λ bytes. bytes.now) checkpoint.entry)) }
-    ensures refused { IfErr result (HasNotStarted (map arc_value plans.entry.items) begun.entry.feeds.items (option_map (λ bytes. bytes.now) checkpoint.entry)) }
+    ensures refused { IfErr result (HasNotStarted (map arc_value plans.items) begun.entry.feeds.items (option_map (λ bytes. bytes.now) checkpoint.entry)) }
 {
     let Begun { feeds, sources } = begun;
     let plan = first_plan(&plans)?;

@@ -140,7 +140,7 @@ IsAnsweredAs changes old text new = HasTold old new × IsChanges old text
 IsAnsweredAs told old text new = HasTold old new × IsToldCount old text
 IsAnsweredAs (rows table most from) old text new = (new ≡ old) × IsSomeAnd (first_plan old.live) (IsRows old.live.fed.board.rows table most from text)
 IsAnsweredAs (row table key) old text new = (new ≡ old) × IsSomeAnd (first_plan old.live) (IsRow old.live.fed.board.rows table key text)
-IsAnsweredAs counts old text new = (new ≡ old) × IsSomeAnd (first_plan old.live) (IsCounts old.live.fed.board.rows (length old.live.fed.feeds) text)
+IsAnsweredAs counts old text new = (new ≡ old) × IsSomeAnd (first_plan old.live) (IsCounts old.live.fed.board.rows (length old.live.fed.board.streams) text)
 IsAnsweredAs save old text new = (new ≡ old) × IsSaved old.live.fed.board text
 IsAnsweredAs last old text new = (new ≡ old) × (text ≡ ok_line nothing_data)
 

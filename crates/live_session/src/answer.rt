@@ -35,7 +35,7 @@ fn go_on<'h, R: Wait, A: Arrivals<'h>, O: Out>(
     requires { length seats.old ≡ length live.old.fed.feeds }
     ensures answer { Answers (IsMore (session_of live.old seats.old) (session_of live.new seats.new)) result (O.written out.old) (O.written out.new) }
     ensures gone { (bytes : ℕ) × HasGone bytes live.old live.new }
-    ensures seats { length seats.new ≡ length seats.old }
+    ensures seats { length seats.new ≡ length live.new.fed.feeds }
 {
     live.fed().is_fed();
     let bytes = growth(rt, alloc, live, seats, arrivals);
@@ -59,7 +59,7 @@ fn answer_to<'h, R: Wait, A: Arrivals<'h>, O: Out>(
     requires { length seats.old ≡ length live.old.fed.feeds }
     ensures answer { Answers (λ text. IsAnsweredAs (request_value request.entry) (session_of live.old seats.old) text (session_of live.new seats.new)) result (O.written out.old) (O.written out.new) }
     ensures left { OnErr result (IsLeft (request_value request.entry) (session_of live.old seats.old) (session_of live.new seats.new)) }
-    ensures seats { length seats.new ≡ length seats.old }
+    ensures seats { length seats.new ≡ length live.new.fed.feeds }
 {
     match request {
         Request::More { groups } => {
@@ -77,10 +77,7 @@ fn answer_to<'h, R: Wait, A: Arrivals<'h>, O: Out>(
             let plan = plan_of(live);
             tell_row(alloc, live.fed().board(), plan, table, key, out)
         }
-        Request::Counts => {
-            live.fed().is_fed();
-            tell_counts(alloc, live.fed().board(), plan_of(live), out)
-        }
+        Request::Counts => tell_counts(alloc, live.fed().board(), plan_of(live), out),
         Request::Save => tell_saved(alloc, live, arrivals, out),
         Request::End => Ok(print_nothing(out)),
     }

@@ -19,7 +19,7 @@ fn note_one(seat: &mut Seat<'_>, answer: Result<bool, StepRefusal>)
 /// What each stream answered is noted in its seat.
 pub(crate) fn note(seats: &mut [Seat<'_>], answers: Vec<Result<bool, StepRefusal>>)
     requires { length answers.items ≡ length seats.old }
-    ensures { AreNoted answers.entry.items seats.new }
+    ensures { AreNoted answers.items seats.new }
 {
     let mut answers = answers;
     let mut s = seats.len();

@@ -87,5 +87,6 @@ pub(crate) fn first_key(alloc: Global, table: u8) -> Result<Key, AllocError>
     // No key of the table is less.
     ensures least { IfOk result (λ first. (key : KeyValue) → key.table ≡ table → is_lt (key_cmp key first) ≡ false) }
 {
-    Key::from_view(alloc, &LentKey::first_of(alloc, table).view())
+    let first = LentKey::first_of(alloc, table);
+    Key::from_lent(alloc, &first)
 }

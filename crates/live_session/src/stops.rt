@@ -87,9 +87,11 @@ fn of_stop<'r>(tables: &'r [Table], stopped: &Stopped) -> RefusalTold<'r>
 pub(crate) fn refusal_of<'r>(tables: &'r [Table], seat: &'r Seat<'_>) -> Option<RefusalTold<'r>>
     ensures { option_map refusal_value result ≡ refusal_of tables.entry.now seat.entry.now.step seat.entry.now.stopped }
 {
-    match (&seat.step, &seat.stopped) {
-        (Some(refusal), _) => Some(of_step(tables, refusal)),
-        (None, Some(stopped)) => Some(of_stop(tables, stopped)),
-        (None, None) => None,
+    if let Some(refusal) = &seat.step {
+        return Some(of_step(tables, refusal));
+    }
+    match &seat.stopped {
+        None => None,
+        Some(stopped) => Some(of_stop(tables, stopped)),
     }
 }
