@@ -1,6 +1,8 @@
 -- The turns of a session: a line is taken off the input, and answered on the output (this profile).
 use Rattle.std.specs.Prelude.{◌≡◌, ◌≢◌, ◌⊎◌, ℕ, List, [], ◌∷◌, Bool, true, false, Option, None, Some}
 use Rattle.printing.specs.Printing.{IsWritten, Written}
+use Rattle.board_laws.specs.FedBoards.{IsFedBoard}
+use Rattle.live_core.specs.Live.{IsLive}
 use Rattle.live_requests.specs.Lines.{IsFound}
 use Rattle.live_requests.specs.Requests.{Asked, last, request_in}
 use Rattle.live_requests.specs.declared.lines.Found.{Found}
@@ -44,12 +46,15 @@ abbrev pub IsNext : Option (List ℕ) → Option (List ℕ) → Option (Option A
 IsNext old new None = (line : List ℕ) × IsFound old new End line
 IsNext old new (Some asked) = IsLineTaken old new asked
 
--- A line is taken off the input, and its answer is written.
+-- A line is taken off the input, and its answer is written. Behind it the board is lawful, and its streams show their sources
+-- at the positions at which they stand.
 pub record IsTurn (asked : Option Asked) (old new : Stand) : Type 0 where
   pub taken : IsLineTaken old.input new.input asked
   pub text : List ℕ
   pub answer : IsAnswer asked old.session text new.session
   pub written : IsWritten old.output new.output text
+  pub live : IsLive new.session.live
+  pub fed : IsFedBoard new.session.live.fed.feeds new.session.live.fed.board
 
 -- these requests are taken off the input one after another, and each is answered before the next is taken
 abbrev pub AreTurns : List (Option Asked) → Stand → Stand → Type 0

@@ -2,6 +2,7 @@
 
 ghost use Rattle.std.specs.Prelude.{◌≡◌, ◌×◌, ◌≤◌, ℕ, List, length, OnErr, Option, Some, option_map};
 ghost use Rattle.printing.specs.Printing.{Prints};
+ghost use Rattle.board_laws.specs.FedBoards.{IsFedBoard};
 ghost use Rattle.live_core.specs.Live.{IsLive};
 ghost use Rattle.live_requests.specs.Requests.{request_value};
 ghost use Rattle.live_session.specs.Answered.{Answers, HasGone, IsAnswer, IsAnsweredAs, IsLeft, IsMore};
@@ -96,8 +97,9 @@ pub(crate) fn answer<'h, R: Wait, A: Arrivals<'h>, O: Out>(
     requires { length seats.old ≡ length live.old.fed.feeds }
     ensures answer { (text : List ℕ) × IsAnswer (option_map request_value request.entry) (session_of live.old seats.old) text (session_of live.new seats.new) × Prints result (O.written out.old) (O.written out.new) text }
     ensures seats { length seats.new ≡ length live.new.fed.feeds }
-    // The board that is told of shows its sources.
+    // The board that is told of is lawful, and shows its sources.
     ensures live { IsLive live.new }
+    ensures fed { IsFedBoard live.new.fed.feeds live.new.fed.board }
 {
     let printed = match request {
         None => refuse(out, 124),
@@ -106,6 +108,6 @@ pub(crate) fn answer<'h, R: Wait, A: Arrivals<'h>, O: Out>(
             Err(_) => refuse(out, 72),
         },
     };
-    live.is_live();
+    live.fed().is_fed();
     printed
 }
