@@ -4,3 +4,4 @@ pub mod GrowthLaws
 pub mod TurnLaws
 pub mod Walking
 pub mod AnswerLaws
+pub mod StreamLaws
