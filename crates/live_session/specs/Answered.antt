@@ -14,7 +14,8 @@ use Rattle.change_laws.specs.declared.changed_keys.ChangedKeys.{ChangedKeys}
 use Rattle.live_core.specs.Live.{LiveValue, AreCounted, HaveEndedAs, IsToldExactly, told_rows}
 use Rattle.live_json.specs.Answers.{StreamValue, TableCounts, ok_line, refused_line, more_data, state_data, changes_data, told_data, page_data, standing_data, counts_data, saved_data, nothing_data}
 use Rattle.live_requests.specs.Named.{IsKeyText}
-use Rattle.live_requests.specs.Requests.{Asked, more, state, changes, told, rows, row, counts, save, last}
+use Rattle.live_requests.specs.Requests as asked
+use Rattle.live_requests.specs.Requests.{Asked}
 use Rattle.live_session.specs.Counts.{AreAllCounts}
 use Rattle.live_session.specs.Growths.{HaveCome}
 use Rattle.live_session.specs.Pages.{page_of}
@@ -134,25 +135,25 @@ IsSaved board text = (text ≡ ok_line (saved_data (length (checkpoint_of board)
 
 -- what a request is answered, and what it leaves
 abbrev pub IsAnsweredAs : Asked → SessionValue → List ℕ → SessionValue → Type 0
-IsAnsweredAs (more groups) old text new = IsMore old new text
-IsAnsweredAs state old text new = (new ≡ old) × IsState old text
-IsAnsweredAs changes old text new = HasTold old new × IsChanges old text
-IsAnsweredAs told old text new = HasTold old new × IsToldCount old text
-IsAnsweredAs (rows table most from) old text new = (new ≡ old) × IsSomeAnd (first_plan old.live) (IsRows old.live.fed.board.rows table most from text)
-IsAnsweredAs (row table key) old text new = (new ≡ old) × IsSomeAnd (first_plan old.live) (IsRow old.live.fed.board.rows table key text)
-IsAnsweredAs counts old text new = (new ≡ old) × IsSomeAnd (first_plan old.live) (IsCounts old.live.fed.board.rows (length old.live.fed.board.streams) text)
-IsAnsweredAs save old text new = (new ≡ old) × IsSaved old.live.fed.board text
-IsAnsweredAs last old text new = (new ≡ old) × (text ≡ ok_line nothing_data)
+IsAnsweredAs (asked.more groups) old text new = IsMore old new text
+IsAnsweredAs asked.state old text new = (new ≡ old) × IsState old text
+IsAnsweredAs asked.changes old text new = HasTold old new × IsChanges old text
+IsAnsweredAs asked.told old text new = HasTold old new × IsToldCount old text
+IsAnsweredAs (asked.rows table most from) old text new = (new ≡ old) × IsSomeAnd (first_plan old.live) (IsRows old.live.fed.board.rows table most from text)
+IsAnsweredAs (asked.row table key) old text new = (new ≡ old) × IsSomeAnd (first_plan old.live) (IsRow old.live.fed.board.rows table key text)
+IsAnsweredAs asked.counts old text new = (new ≡ old) × IsSomeAnd (first_plan old.live) (IsCounts old.live.fed.board.rows (length old.live.fed.board.streams) text)
+IsAnsweredAs asked.save old text new = (new ≡ old) × IsSaved old.live.fed.board text
+IsAnsweredAs asked.last old text new = (new ≡ old) × (text ≡ ok_line nothing_data)
 
 -- want of memory leaves all as it was, but for what `more` has done
 abbrev pub IsLeft : Asked → SessionValue → SessionValue → Type 0
-IsLeft (more groups) old new = (bytes : ℕ) × HasGone bytes old.live new.live
-IsLeft asked old new = new ≡ old
+IsLeft (asked.more groups) old new = (bytes : ℕ) × HasGone bytes old.live new.live
+IsLeft request old new = new ≡ old
 
 -- A request is answered so, or 72; and 124 is the answer to a line that is none.
 abbrev pub IsAnswer : Option Asked → SessionValue → List ℕ → SessionValue → Type 0
 IsAnswer None old text new = (new ≡ old) × (text ≡ refusal_line 124)
-IsAnswer (Some asked) old text new = IsAnsweredAs asked old text new ⊎ (IsLeft asked old new × (text ≡ refusal_line 72))
+IsAnswer (Some request) old text new = IsAnsweredAs request old text new ⊎ (IsLeft request old new × (text ≡ refusal_line 72))
 
 -- ---- what a call that answers leaves on its output
 

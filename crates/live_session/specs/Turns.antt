@@ -4,7 +4,8 @@ use Rattle.printing.specs.Printing.{IsWritten, Written}
 use Rattle.board_laws.specs.FedBoards.{IsFedBoard}
 use Rattle.live_core.specs.Live.{IsLive}
 use Rattle.live_requests.specs.Lines.{IsFound}
-use Rattle.live_requests.specs.Requests.{Asked, last, request_in}
+use Rattle.live_requests.specs.Requests as ask
+use Rattle.live_requests.specs.Requests.{Asked, request_in}
 use Rattle.live_requests.specs.declared.lines.Found.{Found}
 use Rattle.live_requests.specs.declared.lines.Found.TheVariants.{Line, Long, End}
 use Rattle.live_session.specs.Answered.{IsAnswer}
@@ -63,7 +64,7 @@ AreTurns (asked ∷ others) old new = (between : Stand) × IsTurn asked old betw
 
 -- a request that ends the session
 abbrev pub is_last : Option Asked → Bool
-is_last (Some last) = true
+is_last (Some ask.last) = true
 is_last asked = false
 
 -- the input has ended, and nothing else has happened
