@@ -81,8 +81,8 @@ length-front (suc n) (x ∷ xs) h = ap suc (length-front n xs (omega (arith, h))
 
 -- ---- all
 
-pub come-none : (old new : LiveValue) → new ≡ old → HaveCome 0 old new
-come-none old new same = record {
+pub come_none : (old new : LiveValue) → new ≡ old → HaveCome 0 old new
+come_none old new same = record {
   board = ap (λ (live : LiveValue). live.fed.board) same;
   told = ap (λ (live : LiveValue). live.told) same;
   number = ap (λ (live : LiveValue). length live.fed.feeds) same;

@@ -1,5 +1,5 @@
 -- The first rows of a table among rising entries.
-use Rattle.std.proofs.Common.{◌≡◌, ◌==◌, ℕ, suc, ◌+◌, ◌-◌, ◌<◌, ◌≤◌, arith, Bool, true, false, cond, not, List, [], ◌∷◌, ◌++◌, length, map, take, append_assoc, length-append, subst, Bor, Option, Some, None, refl, sym, ap, ◌∙◌}
+use Rattle.std.proofs.Common.{◌≡◌, ◌==◌, ℕ, zero, suc, ◌+◌, ◌-◌, ◌<◌, ◌≤◌, arith, Bool, true, false, cond, not, List, [], ◌∷◌, ◌++◌, length, map, take, append_assoc, length-append, subst, Bor, Option, Some, None, slice_get, refl, sym, ap, ◌∙◌}
 use Rattle.std.proofs.Math.Seq.{take-nil}
 use Rattle.std.proofs.lemmas.List.{map-append}
 use Rattle.std.proofs.lemmas.Bool.{ne_eqb}
@@ -14,7 +14,10 @@ use Rattle.target_tables.specs.Contents.{entry, from_key}
 use Rattle.target_tables.specs.Rising.{IsRising}
 use Rattle.source_feed.specs.History.{KeptRow}
 use Rattle.board_laws.specs.Meaning.{TargetRows}
-use Rattle.live_session.specs.Pages.{of_table, first_of}
+use Rattle.std.specs.Prelude.{option_map}
+use Rattle.list_laws.proofs.Fronts.{take-own}
+use Rattle.list_laws.proofs.Places.{get_in_front}
+use Rattle.live_session.specs.Pages.{of_table, first_of, key_at}
 
 abbrev pub Entry : Type 0
 Entry = KeyValue × (ℕ × KeptRow)
@@ -105,3 +108,39 @@ module _ (es rest : TargetRows) (e : Entry) (t : ℕ) (parts : es ≡ e ∷ rest
         ∙ ap (λ (r : Entry). map entry found ++ r ∷ first_of rest t (rows - (length found + 1))) row
         ∙ ap (λ (rs : TargetRows). map entry found ++ rs) (sym (ap (λ (all : TargetRows). first_of all t (rows - length found)) parts ∙ first_of-take e rest t rows (length found) same within))
         ∙ seen
+
+-- ---- a page of them
+
+take-whole : {A : Type 0} (n : ℕ) (xs : List A) → length xs ≤ n → take n xs ≡ xs
+take-whole n [] h = take-nil n
+take-whole zero (x ∷ xs) h = absurd (omega (arith, h))
+take-whole {A} (suc n) (x ∷ xs) h = ap (λ (rest : List A). x ∷ rest) (take-whole n xs (omega (arith, h)))
+
+none-there : {A : Type 0} (n : ℕ) (xs : List A) → length xs ≤ n → slice_get xs n ≡ None
+none-there n [] h = refl
+none-there zero (x ∷ xs) h = absurd (omega (arith, h))
+none-there (suc n) (x ∷ xs) h = none-there n xs (omega (arith, h))
+
+-- all rows where they are so few
+pub few-rows : (rows : TargetRows) (most : ℕ) → length rows ≤ most → (rows ≡ take most rows) × (None ≡ key_at rows most)
+few-rows rows most h = (sym (take-whole most rows h), sym (ap (λ (found : Option Entry). option_map (λ (e : Entry). e.0) found) (none-there most rows h)))
+
+last-there : {A : Type 0} (xs : List A) (x : A) → slice_get (xs ++ x ∷ []) (length xs) ≡ Some x
+last-there [] x = refl
+last-there (y ∷ ys) x = last-there ys x
+
+-- one more than asked: it is the next
+pub more-rows : (rows front : TargetRows) (e : Entry) (most : ℕ) → rows ≡ front ++ e ∷ [] → length front ≡ most → (front ≡ take most rows) × (Some e.0 ≡ key_at rows most)
+more-rows rows front e most is count = (
+  sym (ap (take most) is ∙ ap (λ n. take n (front ++ e ∷ [])) (sym count) ∙ take-own front (e ∷ [])),
+  sym (ap (λ (all : TargetRows). key_at all most) is ∙ ap (λ n. key_at (front ++ e ∷ []) n) (sym count) ∙ ap (λ (found : Option Entry). option_map (λ (e : Entry). e.0) found) (last-there front e)),
+)
+
+take-twice : {A : Type 0} (n : ℕ) (xs : List A) → take n (take (n + 1) xs) ≡ take n xs
+take-twice zero xs = refl
+take-twice (suc n) [] = refl
+take-twice {A} (suc n) (x ∷ xs) = ap (λ (rest : List A). x ∷ rest) (take-twice n xs)
+
+-- a page of the first ones, of which there is at most one more than asked, is one of all
+pub page-is : (all rows : TargetRows) (most : ℕ) → rows ≡ take (most + 1) all → (take most rows ≡ take most all) × (key_at rows most ≡ key_at all most)
+page-is all rows most is = (ap (take most) is ∙ take-twice most all, ap (λ (found : Option Entry). option_map (λ (e : Entry). e.0) found) (ap (λ (found : TargetRows). slice_get found most) is ∙ get_in_front (most + 1) all most (omega arith)))

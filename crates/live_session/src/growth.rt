@@ -29,6 +29,7 @@ fn next_piece<'h, R: Wait, A: Arrivals<'h>>(
 }
 
 /// The feed of stream `s` grows by a piece: how many of its bytes are taken. Why none are is noted in its seat.
+#[tactic(auto, using(crate::proofs::GrowthLaws::come_none))]
 fn grow_by<'h>(
     alloc: Global,
     live: &mut Live<'h>,
@@ -57,6 +58,7 @@ fn grow_by<'h>(
 }
 
 /// The feed of stream `s` grows by what has come, unless it doesn't grow any more: how many bytes are taken.
+#[tactic(auto, using(crate::proofs::GrowthLaws::come_none))]
 fn grow_one<'h, R: Wait, A: Arrivals<'h>>(
     rt: &R,
     alloc: Global,
