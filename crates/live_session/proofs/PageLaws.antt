@@ -136,11 +136,18 @@ more-rows rows front e most is count = (
   sym (ap (λ (all : TargetRows). key_at all most) is ∙ ap (λ n. key_at (front ++ e ∷ []) n) (sym count) ∙ ap (λ (found : Option Entry). option_map (λ (e : Entry). e.0) found) (last-there front e)),
 )
 
-take-twice : {A : Type 0} (n : ℕ) (xs : List A) → take n (take (n + 1) xs) ≡ take n xs
+take-twice : {A : Type 0} (n : ℕ) (xs : List A) → take n (take (suc n) xs) ≡ take n xs
 take-twice zero xs = refl
 take-twice (suc n) [] = refl
 take-twice {A} (suc n) (x ∷ xs) = ap (λ (rest : List A). x ∷ rest) (take-twice n xs)
 
+plus-one : (n : ℕ) → n + 1 ≡ suc n
+plus-one n = omega arith
+
 -- a page of the first ones, of which there is at most one more than asked, is one of all
 pub page-is : (all rows : TargetRows) (most : ℕ) → rows ≡ take (most + 1) all → (take most rows ≡ take most all) × (key_at rows most ≡ key_at all most)
-page-is all rows most is = (ap (take most) is ∙ take-twice most all, ap (λ (found : Option Entry). option_map (λ (e : Entry). e.0) found) (ap (λ (found : TargetRows). slice_get found most) is ∙ get_in_front (most + 1) all most (omega arith)))
+page-is all rows most is =
+    let first : rows ≡ take (suc most) all = is ∙ ap (λ n. take n all) (plus-one most) in (
+      ap (take most) first ∙ take-twice most all,
+      ap (λ (found : Option Entry). option_map (λ (e : Entry). e.0) found) (ap (λ (found : TargetRows). slice_get found most) first ∙ get_in_front (suc most) all most (omega arith)),
+    )
