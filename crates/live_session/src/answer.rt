@@ -84,7 +84,47 @@ fn answer_to<'h, R: Wait, A: Arrivals<'h>, O: Out>(
     }
 }
 
-/// What a line is answered, that asks for something or for nothing. An error is of the output.
+/// What a request is answered, or 72 for want of memory.
+fn answer_or_refuse<'h, R: Wait, A: Arrivals<'h>, O: Out>(
+    rt: &R,
+    alloc: Global,
+    live: &mut Live<'h>,
+    seats: &mut [Seat<'h>],
+    arrivals: &mut A,
+    request: Request<'_>,
+    out: &mut O,
+) -> Result<(), OutFailed>
+    requires { length seats.old ≡ length live.old.fed.feeds }
+    ensures answer { (text : List ℕ) × IsAnswer (Some (request_value request.entry)) (session_of live.old seats.old) text (session_of live.new seats.new) × Prints result (O.written out.old) (O.written out.new) text }
+    ensures seats { length seats.new ≡ length live.new.fed.feeds }
+{
+    match answer_to(rt, alloc, live, seats, arrivals, request, out) {
+        Ok(printed) => printed,
+        Err(_) => refuse(out, 72),
+    }
+}
+
+/// What a line is answered, that asks for something or for nothing.
+fn answer_line<'h, R: Wait, A: Arrivals<'h>, O: Out>(
+    rt: &R,
+    alloc: Global,
+    live: &mut Live<'h>,
+    seats: &mut [Seat<'h>],
+    arrivals: &mut A,
+    request: Option<Request<'_>>,
+    out: &mut O,
+) -> Result<(), OutFailed>
+    requires { length seats.old ≡ length live.old.fed.feeds }
+    ensures answer { (text : List ℕ) × IsAnswer (option_map request_value request.entry) (session_of live.old seats.old) text (session_of live.new seats.new) × Prints result (O.written out.old) (O.written out.new) text }
+    ensures seats { length seats.new ≡ length live.new.fed.feeds }
+{
+    match request {
+        None => refuse(out, 124),
+        Some(request) => answer_or_refuse(rt, alloc, live, seats, arrivals, request, out),
+    }
+}
+
+/// The same. An error is of the output.
 pub(crate) fn answer<'h, R: Wait, A: Arrivals<'h>, O: Out>(
     rt: &R,
     alloc: Global,
@@ -101,13 +141,7 @@ pub(crate) fn answer<'h, R: Wait, A: Arrivals<'h>, O: Out>(
     ensures live { IsLive live.new }
     ensures fed { IsFedBoard live.new.fed.feeds live.new.fed.board }
 {
-    let printed = match request {
-        None => refuse(out, 124),
-        Some(request) => match answer_to(rt, alloc, live, seats, arrivals, request, out) {
-            Ok(printed) => printed,
-            Err(_) => refuse(out, 72),
-        },
-    };
+    let printed = answer_line(rt, alloc, live, seats, arrivals, request, out);
     live.fed().is_fed();
     printed
 }
