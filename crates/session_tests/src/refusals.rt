@@ -5,12 +5,12 @@ use std::test::Fail;
 
 /// Requests that are refused, and the session goes on.
 const REFUSED_REQUESTS_ANSWERS: &[&str] = &[
-    r#"{"refused":{"number":125,"words":"no such table"}}"#,
-    r#"{"refused":{"number":126,"words":"no key of this table"}}"#,
-    r#"{"refused":{"number":124,"words":"a line that is no request"}}"#,
-    r#"{"refused":{"number":124,"words":"a line that is no request"}}"#,
-    r#"{"refused":{"number":124,"words":"a line that is no request"}}"#,
-    r#"{"refused":{"number":124,"words":"a line that is no request"}}"#,
+    r#"{"refused":{"number":125,"words":"the workflow has no such table"}}"#,
+    r#"{"refused":{"number":126,"words":"a key isn't one of its table"}}"#,
+    r#"{"refused":{"number":124,"words":"a line is no request of a session"}}"#,
+    r#"{"refused":{"number":124,"words":"a line is no request of a session"}}"#,
+    r#"{"refused":{"number":124,"words":"a line is no request of a session"}}"#,
+    r#"{"refused":{"number":124,"words":"a line is no request of a session"}}"#,
     r#"{"ok":{"streams":[{"applied":2,"bytes":218,"copied":[{"key":null,"table":"t","what":"done"}],"groups":2,"phase":"Running","position":"MySQL56/3e11fa47-71ca-11e1-9e33-c80aa9429562:1-2","read":2,"refused":null,"stream":0,"tail":0}]}}"#,
 ];
 
