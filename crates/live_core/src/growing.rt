@@ -30,9 +30,9 @@ fn grow_one<'h>(
         return Err(GrowRefusal::Piece(FeedFault::Memory));
     }
     let taken = fed.grow(alloc, s, &mut source.end, piece)?;
-    let taken = front(piece, taken as usize);
-    source.put(taken);
-    Ok(taken.len() as u32)
+    let bytes = front(piece, taken as usize);
+    source.put(bytes);
+    Ok(bytes.len() as u32)
 }
 
 /// The feed of stream `s` grows by a further piece, and so does its source: how many of its bytes are taken.
@@ -55,5 +55,6 @@ pub(crate) fn grow_in<'h>(
     if s as usize >= sources.len() {
         return Err(GrowRefusal::NoStream);
     }
-    grow_one(alloc, fed, &mut sources[s as usize], s, piece)
+    let source = &mut sources[s as usize];
+    grow_one(alloc, fed, source, s, piece)
 }

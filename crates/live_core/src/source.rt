@@ -96,7 +96,8 @@ impl<'h> Source<'h> {
     {
         self.pieces.reserve(1)?;
         let taken = self.end.grow(alloc, feed, piece)?;
-        self.put(front(piece, taken as usize));
+        let bytes = front(piece, taken as usize);
+        self.put(bytes);
         Ok(taken)
     }
 }
