@@ -1,2 +1,2 @@
 mod CellLaws
-pub mod TextLaws
+mod TextLaws

@@ -91,9 +91,10 @@ pub(crate) fn put_key<O: Out>(out: &mut O, line: &mut Line, key: &Key)
 pub(crate) fn put_row_there<O: Out>(out: &mut O, line: &mut Line, there: Option<(u8, &RowBuf)>)
     ensures { Tells (at (O.written out.old) line.old) (at (O.written out.new) line.new) (compact_text (row_there (option_map standing there.entry))) }
 {
-    match there {
-        None => line.put(out, b"null"),
-        Some((_, row)) => put_row(out, line, row),
+    if let Some((_, row)) = there {
+        put_row(out, line, row);
+    } else {
+        line.put(out, b"null");
     }
 }
 

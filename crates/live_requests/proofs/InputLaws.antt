@@ -1,10 +1,12 @@
 -- Bytes that are taken off an input, one after another.
-use Rattle.std.proofs.Common.{◌≡◌, ◌≢◌, ◌∙◌, ℕ, zero, suc, ◌+◌, List, [], ◌∷◌, ◌++◌, length, take, Option, None, Some, refl, sym, ap, subst, append_assoc}
-use Rattle.std.proofs.lemmas.List.{length-append}
+use Rattle.std.proofs.Common.{◌≡◌, ◌≢◌, ◌∙◌, ℕ, zero, suc, ◌+◌, ◌≤◌, Bool, true, false, inl, List, [], ◌∷◌, ◌++◌, length, take, Option, None, Some, refl, sym, ap, subst, append_assoc, append-nil, arith}
+use Rattle.std.proofs.lemmas.List.{length-append, take_all}
 use Rattle.std.specs.List.{AllByRecursion}
 use Rattle.std.specs.Io.KnownBytes.{Consumes, IsAtEnd, Keeps}
 use Rattle.list_laws.proofs.Fronts.{All-append}
-use Rattle.live_requests.specs.Lines.{IsUnbroken}
+use Rattle.live_requests.specs.declared.lines.Found.TheVariants.{Line}
+use Rattle.live_requests.specs.declared.lines.Taken.{Taken}
+use Rattle.live_requests.specs.Lines.{AreTaken, IsFound, IsTaken, IsUnbroken, TakesByte, most_of}
 
 -- ---- an input
 
@@ -67,3 +69,51 @@ one-taken old now new count byte line longer so_far other more is = record {
   first = is ∙ ap (λ (l : List ℕ). take 65536 (l ++ byte ∷ [])) so_far.first ∙ first-more 65536 so_far.bytes byte;
   off = off-off old now new so_far.bytes (byte ∷ []) so_far.off more;
 }
+
+-- ---- the end of a line
+
+-- a byte that was found
+pub byte-found : (now new : Option (List ℕ)) (found : Option ℕ) (byte : ℕ) → found ≡ Some byte → TakesByte now new found → Consumes now new (byte ∷ [])
+byte-found now new found byte is takes = subst (TakesByte now new) is takes
+
+-- the input has ended
+pub taken-whole : (old now new : Option (List ℕ)) (count : ℕ) (line : List ℕ) (found : Option ℕ) → AreOff old now count line → found ≡ None → TakesByte now new found → IsTaken old new (record { count = count; ended = true }) line
+taken-whole old now new count line found so_far is takes =
+    let last : Keeps now new × IsAtEnd new = subst (TakesByte now new) is takes in
+    record {
+      bytes = so_far.bytes;
+      unbroken = so_far.unbroken;
+      count = so_far.many;
+      first = so_far.first;
+      off = (subst (λ (bytes : List ℕ). Consumes old new bytes) (append-nil so_far.bytes) (off-off old now new so_far.bytes [] so_far.off (off-none now new last.0)), last.1);
+    }
+
+-- an LF stands behind the line
+pub taken-line : (old now new : Option (List ℕ)) (count : ℕ) (line : List ℕ) → AreOff old now count line → Consumes now new (10 ∷ []) → IsTaken old new (record { count = count; ended = false }) line
+taken-line old now new count line so_far more = record {
+  bytes = so_far.bytes;
+  unbroken = so_far.unbroken;
+  count = so_far.many;
+  first = so_far.first;
+  off = inl (off-off old now new so_far.bytes (10 ∷ []) so_far.off more);
+}
+
+take-short : (n : ℕ) (bytes : List ℕ) → length (take n bytes) ≤ n
+take-short zero bytes = omega arith
+take-short (suc n) [] = omega arith
+take-short (suc n) (byte ∷ bytes) = omega (arith, take-short n bytes)
+
+pub kept-short : (old now : Option (List ℕ)) (count : ℕ) (line : List ℕ) → AreOff old now count line → length line ≤ 65536
+kept-short old now count line so_far = subst (λ (bytes : List ℕ). length bytes ≤ 65536) (sym so_far.first) (take-short 65536 so_far.bytes)
+
+-- ---- a line that is found
+
+most-short : (ended : Bool) → most_of ended ≤ 65536
+most-short true = omega arith
+most-short false = omega arith
+
+pub line-found : (old new : Option (List ℕ)) (taken : Taken) (line : List ℕ) (most : ℕ) → IsTaken old new taken line → most ≡ most_of taken.ended → taken.count ≤ most → IsFound old new Line line
+line-found old new taken line most is most_is within =
+    let fits : length is.bytes ≤ most_of taken.ended = omega (arith, is.count, most_is, within) in
+    let whole : is.bytes ≡ line = sym (is.first ∙ take_all 65536 is.bytes (omega (arith, fits, most-short taken.ended))) in
+    subst (λ (bytes : List ℕ). IsUnbroken bytes × ((ended : Bool) × (length bytes ≤ most_of ended) × AreTaken old new bytes ended)) whole (is.unbroken, (taken.ended, fits, is.off))

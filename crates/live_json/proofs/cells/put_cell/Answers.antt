@@ -4,6 +4,10 @@ use Rattle.json.specs.Print.{escape, escape_byte}
 use Rattle.json_pieces.proofs.TellLaws.{then_tells}
 use Rattle.live_json.proofs.cells.put_cell.Goals as goal
 
+pub returns-in-Null : goal.returns-in-Null
+unfolding escape_byte
+returns-in-Null g c = c.put.ensures
+
 pub returns-in-Bytes : goal.returns-in-Bytes
 unfolding escape_byte
 returns-in-Bytes g c =

@@ -1,8 +1,12 @@
-use Rattle.std.proofs.Common.{subst}
-use Rattle.json_pieces.specs.Telling.{LineValue, Tells, at}
+use Rattle.std.proofs.Common.{map}
+use Rattle.live_json.specs.Answers.{changes_at, changes_data}
+use Rattle.live_json.specs.Private.Parts.{stream_value}
+use Rattle.std.specs.Prelude.{codes}
+use Rattle.serde_json.specs.Written.{compact_text}
+use Rattle.json_pieces.proofs.TellLaws.{then_tells}
 use Rattle.live_json.proofs.changes.print_changes.Goals as goal
 
 pub returns : goal.returns
 returns g c =
-    let begun = g.O.Out.written c.args.out.now in
-    c.finish.ensures begun _ (subst (λ (l : LineValue). Tells (at begun l) (at (g.O.Out.written c.put_answer.new.out) c.put_answer.new.line) _) c.new-line.ensures c.put_answer.ensures)
+    let answer = changes_data c.args.tables.now (changes_at c.args.rows.now.entries c.args.keys.now.keys) (map stream_value c.args.streams.now) in
+    c.end.ensures.ok _ answer (then_tells _ _ _ (codes "{\"ok\":") (compact_text answer) c.begun-line.ensures c.put_changes.ensures)

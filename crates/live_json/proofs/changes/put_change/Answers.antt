@@ -1,12 +1,13 @@
-use Rattle.std.proofs.Common.{◌∙◌, ◌++◌, List, ℕ, ap}
-use Rattle.std.specs.Prelude.{codes}
+use Rattle.std.proofs.Common.{◌∙◌, ap}
 use Rattle.std.specs.Option.{option_map}
 use Rattle.filter_rule.specs.PlanTable.{name_of_table}
-use Rattle.json.specs.Print.{escape_byte, quoted}
-use Rattle.serde_json.specs.Written.{compact_text}
+use Rattle.json.specs.Print.{quoted}
 use Rattle.target_tables.specs.Contents.{standing}
-use Rattle.json_pieces.proofs.TellLaws.{same_text, then_tells}
 use Rattle.live_json.specs.Answers.{key_data, row_there, stream_there}
+use Rattle.std.specs.Prelude.{codes}
+use Rattle.json.specs.Print.{escape_byte}
+use Rattle.serde_json.specs.Written.{compact_text}
+use Rattle.json_pieces.proofs.TellLaws.{same_text, then_tells}
 use Rattle.live_json.proofs.changes.put_change.Goals as goal
 
 pub returns : goal.returns

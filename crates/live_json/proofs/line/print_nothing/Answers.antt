@@ -1,8 +1,5 @@
-use Rattle.std.proofs.Common.{subst}
-use Rattle.json_pieces.specs.Telling.{LineValue, Tells, at}
+use Rattle.live_json.specs.Answers.{nothing_data}
 use Rattle.live_json.proofs.line.print_nothing.Goals as goal
 
 pub returns : goal.returns
-returns g c =
-    let begun = g.O.Out.written c.args.out.now in
-    c.finish.ensures begun _ (subst (λ (l : LineValue). Tells (at begun l) (at (g.O.Out.written c.put_nothing.new.out) c.put_nothing.new.line) _) c.new-line.ensures c.put_nothing.ensures)
+returns g c = c.end.ensures.ok _ nothing_data c.begun-line.ensures

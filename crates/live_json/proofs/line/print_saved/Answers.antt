@@ -1,8 +1,10 @@
-use Rattle.std.proofs.Common.{subst}
-use Rattle.json_pieces.specs.Telling.{LineValue, Tells, at}
+use Rattle.live_json.specs.Answers.{saved_data}
+use Rattle.std.specs.Prelude.{codes}
+use Rattle.serde_json.specs.Written.{compact_text}
+use Rattle.json_pieces.proofs.TellLaws.{then_tells}
 use Rattle.live_json.proofs.line.print_saved.Goals as goal
 
 pub returns : goal.returns
 returns g c =
-    let begun = g.O.Out.written c.args.out.now in
-    c.finish.ensures begun _ (subst (λ (l : LineValue). Tells (at begun l) (at (g.O.Out.written c.put_saved.new.out) c.put_saved.new.line) _) c.new-line.ensures c.put_saved.ensures)
+    let answer = saved_data c.args.bytes in
+    c.end.ensures.ok _ answer (then_tells _ _ _ (codes "{\"ok\":") (compact_text answer) c.begun-line.ensures c.put_saved.ensures)

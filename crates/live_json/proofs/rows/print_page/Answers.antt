@@ -1,8 +1,13 @@
-use Rattle.std.proofs.Common.{subst}
-use Rattle.json_pieces.specs.Telling.{LineValue, Tells, at}
+use Rattle.std.proofs.Common.{map}
+use Rattle.std.specs.Option.{option_copied}
+use Rattle.target_tables.specs.Contents.{entry}
+use Rattle.live_json.specs.Answers.{page_data}
+use Rattle.std.specs.Prelude.{codes}
+use Rattle.serde_json.specs.Written.{compact_text}
+use Rattle.json_pieces.proofs.TellLaws.{then_tells}
 use Rattle.live_json.proofs.rows.print_page.Goals as goal
 
 pub returns : goal.returns
 returns g c =
-    let begun = g.O.Out.written c.args.out.now in
-    c.finish.ensures begun _ (subst (λ (l : LineValue). Tells (at begun l) (at (g.O.Out.written c.put_page.new.out) c.put_page.new.line) _) c.new-line.ensures c.put_page.ensures)
+    let answer = page_data (record { rows = map entry c.args.entries.now; next = option_copied c.args.next }) in
+    c.end.ensures.ok _ answer (then_tells _ _ _ (codes "{\"ok\":") (compact_text answer) c.begun-line.ensures c.put_page.ensures)

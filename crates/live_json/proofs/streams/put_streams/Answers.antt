@@ -1,4 +1,4 @@
-use Rattle.std.proofs.Common.{[], ◌∷◌, List, ap, arith, false, map, refl}
+use Rattle.std.proofs.Common.{ℕ, [], ◌∷◌, List, ap, arith, false, map, refl}
 use Rattle.std.proofs.lemmas.List.{drop_all}
 use Rattle.list_laws.proofs.Walks.{at_item}
 use Rattle.serde_json.specs.View.{items_of}

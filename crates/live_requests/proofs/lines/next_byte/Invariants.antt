@@ -3,4 +3,4 @@ use Rattle.live_requests.proofs.lines.next_byte.Given as goal
 
 -- nothing is taken off yet
 abbrev pub invariant-loop-try : goal.invariant-loop-try
-invariant-loop-try g l = Keeps (g.I.remaining l.fn.input) (g.I.remaining l.input)
+invariant-loop-try g l = Keeps (g.I.Read.remaining l.fn.input) (g.I.Read.remaining l.input)

@@ -1,0 +1,13 @@
+use Rattle.std.proofs.Common.{◌∷◌, drop, false, map}
+use Rattle.serde_json.specs.View.{items_of}
+use Rattle.serde_json.specs.Written.{items_text}
+use Rattle.json_pieces.specs.Telling.{IsToldUpTo, at}
+use Rattle.target_tables.specs.Contents.{entry}
+use Rattle.live_json.specs.Answers.{entry_data}
+use Rattle.live_json.proofs.rows.put_entries.Given as goal
+
+-- what is told and what is left are the whole
+abbrev pub invariant-loop-key : goal.invariant-loop-key
+invariant-loop-key g l =
+    IsToldUpTo (at (g.O.Out.written l.fn.out) l.fn.line) (at (g.O.Out.written l.out) l.line) (91 ∷ items_text false (items_of (map entry_data (map entry l.entries))))
+    (items_text l.later (items_of (map entry_data (map entry (drop l.key-index l.entries)))))
