@@ -1,6 +1,6 @@
 //! What a request is answered.
 
-ghost use Rattle.std.specs.Prelude.{◌≡◌, ◌×◌, ◌≤◌, ℕ, List, length, OnErr, Option, Some, option_map};
+ghost use Rattle.std.specs.Prelude.{◌≡◌, ◌≤◌, ℕ, List, length, OnErr, Option, Some, option_map};
 ghost use Rattle.printing.specs.Printing.{Prints};
 ghost use Rattle.board_laws.specs.FedBoards.{IsFedBoard};
 ghost use Rattle.live_core.specs.Live.{IsLive};

@@ -1,6 +1,6 @@
 //! Feeds that grow by what has come.
 
-ghost use Rattle.std.specs.Prelude.{◌≡◌, ◌<◌, length};
+ghost use Rattle.std.specs.Prelude.{◌≡◌, ◌≤◌, length};
 ghost use Rattle.live_session.specs.Growths.{HaveCome};
 
 use crate::arrivals::{ArrivalFault, Arrivals};

@@ -1,6 +1,6 @@
 //! Rows of a table, page by page.
 
-ghost use Rattle.std.specs.Prelude.{◌≡◌, ◌×◌, ◌+◌, ◌≤◌, false, [], IfOk, length, map, take};
+ghost use Rattle.std.specs.Prelude.{◌≡◌, ◌+◌, ◌≤◌, false, [], IfOk, length, map, take};
 ghost use Rattle.std.specs.Ordering.{is_lt};
 ghost use Rattle.pk_copy.specs.KeyValue.{KeyValue};
 ghost use Rattle.std.specs.Option.{option_copied};

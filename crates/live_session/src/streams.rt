@@ -1,6 +1,6 @@
 //! Where the streams stand, as it is told.
 
-ghost use Rattle.std.specs.Prelude.{◌≡◌, ◌<◌, IfOk, length, map, Some, slice_get};
+ghost use Rattle.std.specs.Prelude.{◌≡◌, ◌<◌, ◌≤◌, IfOk, length, map, Some, slice_get};
 ghost use Rattle.board_laws.specs.Meaning.{State};
 ghost use Rattle.live_json.specs.Private.Parts.{copied_value, stream_value};
 ghost use Rattle.live_session.specs.Sessions.{AreCopied, AreTold, IsTold, session_of};
