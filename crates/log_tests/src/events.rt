@@ -85,18 +85,26 @@ const BOUNDARIES: &[usize] = &[
     256, 285, 324, 363, 405, 486, 528, 652, 694, 761, 805, 854, 885,
 ];
 
+/// Whether the first log, cut at each byte, ends as it stands there.
+fn is_cut_well(alloc: Global) -> Result<bool, AllocError> {
+    for size in 4..885 {
+        let wanted = if size < 256 {
+            Err(LogFault::First(EventFault::Cut))
+        } else if BOUNDARIES.contains(&size) {
+            Ok(None)
+        } else {
+            Ok(Some(EventFault::Cut))
+        };
+        if end_of(alloc, &LOG[..size])? != wanted {
+            return Ok(false);
+        }
+    }
+    Ok(true)
+}
+
 #[test]
-fn cut_at_every_byte(rt: HostRuntime) -> Result<(), AllocError> {
-    for size in 4..256 {
-        let end = end_of(rt.alloc(), &LOG[..size])?;
-        assert_eq!(rt; end, Err(LogFault::First(EventFault::Cut)));
-    }
-    for size in 256..885 {
-        let end = end_of(rt.alloc(), &LOG[..size])?;
-        let whole = BOUNDARIES.contains(&size);
-        assert_eq!(rt; end, Ok(if whole { None } else { Some(EventFault::Cut) }));
-    }
-    Ok(())
+fn cut_at_every_byte(rt: HostRuntime) {
+    assert!(rt; matches!(is_cut_well(rt.alloc()), Ok(true)));
 }
 
 /// A copy of a log with one bit turned.
@@ -108,48 +116,82 @@ fn turned(alloc: Global, bytes: &[u8], place: usize, bit: u8) -> Result<Vec<u8>,
     Ok(copy)
 }
 
-#[test]
-fn a_bit_turned_in_every_byte(rt: HostRuntime) -> Result<(), AllocError> {
+/// Whether the first log is refused with a bit turned in any byte of its events.
+fn are_turns_refused(alloc: Global) -> Result<bool, AllocError> {
     for place in 256..885 {
-        let log = turned(rt.alloc(), &LOG, place, 4)?;
-        let end = end_of(rt.alloc(), &log)?;
-        assert!(rt; matches!(end, Ok(Some(_))));
+        let log = turned(alloc, &LOG, place, 4)?;
+        if !matches!(end_of(alloc, &log)?, Ok(Some(_))) {
+            return Ok(false);
+        }
     }
-    Ok(())
+    Ok(true)
+}
+
+#[test]
+fn a_bit_turned_in_every_byte(rt: HostRuntime) {
+    assert!(rt; matches!(are_turns_refused(rt.alloc()), Ok(true)));
+}
+
+/// Whether a log says that the server still writes it.
+fn is_in_use(alloc: Global, bytes: &[u8]) -> Result<bool, AllocError> {
+    let table = CrcTable::new(alloc)?;
+    Ok(matches!(log_of(&table, bytes), Ok(log) if log.in_use))
 }
 
 #[test]
 fn the_flag_of_a_log_in_use(rt: HostRuntime) -> Result<(), AllocError> {
     let log = turned(rt.alloc(), &LOG, 21, 1)?;
-    let table = CrcTable::new(rt.alloc())?;
-    assert!(rt; matches!(log_of(&table, &log), Ok(log) if log.in_use));
-    let other = turned(rt.alloc(), &LOG, 21, 2)?;
-    assert_eq!(rt;
-        end_of(rt.alloc(), &other)?,
-        Err(LogFault::First(EventFault::WrongSum))
-    );
+    assert!(rt; matches!(is_in_use(rt.alloc(), &log), Ok(true)));
     Ok(())
 }
 
+/// What is no log, and why.
+const NO_LOGS: &[(&[u8], LogFault)] = &[
+    (b"", LogFault::NoLog),
+    (b"\xfebi", LogFault::NoLog),
+    (b"\xfebinary", LogFault::First(EventFault::Cut)),
+    (b"\xfdbin....", LogFault::Encrypted),
+];
+
+/// Bits that are turned at a place of the first log's format description, and why it is refused.
+const TURNS: &[(usize, u8, EventFault)] = &[
+    // another flag than that of a log in use
+    (21, 2, EventFault::WrongSum),
+    // a size below the head's
+    (13, 0xfc, EventFault::TooSmall),
+];
+
+/// Whether what is no log is refused.
+fn are_no_logs(alloc: Global) -> Result<bool, AllocError> {
+    for (bytes, fault) in NO_LOGS {
+        if end_of(alloc, bytes)? != Err(*fault) {
+            return Ok(false);
+        }
+    }
+    Ok(true)
+}
+
+/// Whether the first log is refused behind each turn.
+fn are_first_turns_refused(alloc: Global) -> Result<bool, AllocError> {
+    for (place, bits, fault) in TURNS {
+        let log = turned(alloc, &LOG, *place, *bits)?;
+        if end_of(alloc, &log)? != Err(LogFault::First(*fault)) {
+            return Ok(false);
+        }
+    }
+    Ok(true)
+}
+
 #[test]
-fn what_is_no_log(rt: HostRuntime) -> Result<(), AllocError> {
-    assert_eq!(rt; end_of(rt.alloc(), b"")?, Err(LogFault::NoLog));
-    assert_eq!(rt; end_of(rt.alloc(), b"\xfebi")?, Err(LogFault::NoLog));
-    assert_eq!(rt;
-        end_of(rt.alloc(), b"\xfebinary")?,
-        Err(LogFault::First(EventFault::Cut))
-    );
-    assert_eq!(rt;
-        end_of(rt.alloc(), b"\xfdbin....")?,
-        Err(LogFault::Encrypted)
-    );
+fn what_is_no_log(rt: HostRuntime) {
+    assert!(rt; matches!(are_no_logs(rt.alloc()), Ok(true)));
+    assert!(rt; matches!(are_first_turns_refused(rt.alloc()), Ok(true)));
+    assert!(rt; LogFault::OtherSum.number() == 145);
+}
+
+#[test]
+fn the_sum_of_its_own_example(rt: HostRuntime) -> Result<(), AllocError> {
     let table = CrcTable::new(rt.alloc())?;
-    let small = turned(rt.alloc(), &LOG, 13, 0xfc)?;
-    assert_eq!(rt;
-        end_of(rt.alloc(), &small)?,
-        Err(LogFault::First(EventFault::TooSmall))
-    );
-    assert_eq!(rt; table.check_of(b"123456789"), 0xcbf4_3926);
-    assert_eq!(rt; LogFault::OtherSum.number(), 145);
+    assert!(rt; table.check_of(b"123456789") == 0xcbf4_3926);
     Ok(())
 }

@@ -107,27 +107,57 @@ fn rows_of_a_server(rt: HostRuntime) -> Result<(), AllocError> {
     Ok(())
 }
 
+/// A schema, a table's name, the type of its second column, how far it is, and the trouble.
+const UNTOLD: &[(&[u8], &str, u32, Stage, Option<Trouble>)] = &[
+    // the log has no such table
+    (b"s", "u", 6165, Stage::Absent, None),
+    (b"other", "t", 6165, Stage::Absent, None),
+    (
+        b"s",
+        "t",
+        263,
+        Stage::Absent,
+        Some(Trouble::Columns(TableFault::OtherType)),
+    ),
+    (b"s", "t", 6165, Stage::Filled, Some(Trouble::Altered)),
+];
+
+/// Whether nothing is told of tables, and the trouble is theirs.
+fn are_untold(alloc: Global) -> Result<bool, AllocError> {
+    for (schema, name, number, stage, wanted) in UNTOLD {
+        let (events, trouble) = told_of(alloc, *schema, *name, *number, *stage)?;
+        if !events.is_empty() || trouble != *wanted {
+            return Ok(false);
+        }
+    }
+    Ok(true)
+}
+
 #[test]
-fn tables_that_arent_told(rt: HostRuntime) -> Result<(), AllocError> {
-    let (events, trouble) = told_of(rt.alloc(), b"s", "u", 6165, Stage::Absent)?;
-    assert!(rt; trouble == None && events.is_empty());
-    let (events, trouble) = told_of(rt.alloc(), b"other", "t", 6165, Stage::Absent)?;
-    assert!(rt; trouble == None && events.is_empty());
-    let (_, trouble) = told_of(rt.alloc(), b"s", "t", 263, Stage::Absent)?;
-    assert!(rt; trouble == Some(Trouble::Columns(TableFault::OtherType)));
-    let (_, trouble) = told_of(rt.alloc(), b"s", "t", 6165, Stage::Filled)?;
-    assert!(rt; trouble == Some(Trouble::Altered));
-    Ok(())
+fn tables_that_arent_told(rt: HostRuntime) {
+    assert!(rt; matches!(are_untold(rt.alloc()), Ok(true)));
+}
+
+/// Whether events have these bytes.
+fn is_written(event: Result<Vec<u8>, AllocError>, wanted: &[u8]) -> bool {
+    match event {
+        Ok(event) => event.as_slice() == wanted,
+        Err(_) => false,
+    }
 }
 
 #[test]
 fn events_by_themselves(rt: HostRuntime) -> Result<(), AllocError> {
     let text = "6d617269-6164-6200-8000-000000000000:1-3";
-    assert!(rt; begin_event(rt.alloc())?.as_slice() == b"\x08\x02".as_slice());
-    assert!(rt; commit_event(rt.alloc())?.as_slice() == b"\x08\x03".as_slice());
-    assert!(rt; position_event(rt.alloc(), "ks", "-80", text)?.as_slice() == PLACE.as_slice());
+    assert!(rt; is_written(begin_event(rt.alloc()), b"\x08\x02"));
+    assert!(rt; is_written(commit_event(rt.alloc()), b"\x08\x03"));
+    assert!(rt; is_written(position_event(rt.alloc(), "ks", "-80", text), &PLACE));
     let table = table_of(rt.alloc(), "t", 6165)?;
-    assert!(rt; field_event(rt.alloc(), &table)?.as_slice() == FIELD.as_slice());
-    assert!(rt; is_plain_name(b"a_1$") && !is_plain_name(b"a.b") && !is_plain_name(b""));
+    assert!(rt; is_written(field_event(rt.alloc(), &table), &FIELD));
     Ok(())
+}
+
+#[test]
+fn plain_names(rt: HostRuntime) {
+    assert!(rt; is_plain_name(b"a_1$") && !is_plain_name(b"a.b") && !is_plain_name(b""));
 }

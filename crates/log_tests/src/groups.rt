@@ -54,10 +54,9 @@ fn is(
 }
 
 #[test]
-fn transactions_of_a_server(rt: HostRuntime) -> Result<(), AllocError> {
-    assert!(rt; is(rt.alloc(), &LOG, b"c1c1c1", None)?);
-    assert!(rt; is(rt.alloc(), &UNCHECKED, b"c1", None)?);
-    Ok(())
+fn transactions_of_a_server(rt: HostRuntime) {
+    assert!(rt; matches!(is(rt.alloc(), &LOG, b"c1c1c1", None), Ok(true)));
+    assert!(rt; matches!(is(rt.alloc(), &UNCHECKED, b"c1", None), Ok(true)));
 }
 
 /// Where events of the first log end, outside of its transactions and inside.
@@ -65,8 +64,8 @@ const OUTSIDE: &[usize] = &[256, 285, 324, 363, 486, 652];
 
 const INSIDE: &[usize] = &[405, 528, 694, 761, 805, 854];
 
-#[test]
-fn cut_at_every_byte(rt: HostRuntime) -> Result<(), AllocError> {
+/// Whether the first log, cut at each byte, has the transactions before that, and ends as it stands there.
+fn is_cut_well(alloc: Global) -> Result<bool, AllocError> {
     for size in 256..885 {
         let end = if OUTSIDE.contains(&size) {
             None
@@ -82,9 +81,16 @@ fn cut_at_every_byte(rt: HostRuntime) -> Result<(), AllocError> {
         } else {
             b"c1c1"
         };
-        assert!(rt; is(rt.alloc(), &LOG[..size], wanted, end)?);
+        if !is(alloc, &LOG[..size], wanted, end)? {
+            return Ok(false);
+        }
     }
-    Ok(())
+    Ok(true)
+}
+
+#[test]
+fn cut_at_every_byte(rt: HostRuntime) {
+    assert!(rt; matches!(is_cut_well(rt.alloc()), Ok(true)));
 }
 
 /// A log without checks of these events, each by its type, its flags and its body.
@@ -100,14 +106,17 @@ fn log_with(alloc: Global, events: &[(u8, u8, &[u8])]) -> Result<Vec<u8>, AllocE
     Ok(log)
 }
 
-/// Whether a log of these events has these transactions, and ends so.
-fn has(
-    alloc: Global,
-    events: &[(u8, u8, &[u8])],
-    wanted: &[u8],
-    end: Option<GroupFault>,
-) -> Result<bool, AllocError> {
-    is(alloc, &log_with(alloc, events)?, wanted, end)
+/// Events of a log, each by its type, its flags and its body; what is found in it; and how it ends.
+type Case<'c> = (&'c [(u8, u8, &'c [u8])], &'c [u8], Option<GroupFault>);
+
+/// Whether the log of each case has its transactions, and ends so.
+fn have(alloc: Global, cases: &[Case<'_>]) -> Result<bool, AllocError> {
+    for (events, wanted, end) in cases {
+        if !is(alloc, &log_with(alloc, events)?, wanted, *end)? {
+            return Ok(false);
+        }
+    }
+    Ok(true)
 }
 
 /// Positions: of a transaction, of a statement alone, of a transaction that is prepared, and of its end.
@@ -143,118 +152,135 @@ const CREATE: (u8, u8, &[u8]) = (
     b"\0\0\0\0\0\0\0\0\x01\0\0\x02\0xxs\0create table t (a int)",
 );
 
-#[test]
-fn savepoints(rt: HostRuntime) -> Result<(), AllocError> {
-    let save = (
-        2,
-        0,
-        b"\0\0\0\0\0\0\0\0\x01\0\0\0\0s\0SAVEPOINT `a`".as_slice(),
-    );
-    let back = (
-        2,
-        0,
-        b"\0\0\0\0\0\0\0\0\x01\0\0\0\0s\0ROLLBACK TO `A`".as_slice(),
-    );
-    let other = (
-        2,
-        0,
-        b"\0\0\0\0\0\0\0\0\x01\0\0\0\0s\0ROLLBACK TO `b`".as_slice(),
-    );
-    let rolled = (2, 0, b"\0\0\0\0\0\0\0\0\x01\0\0\0\0s\0ROLLBACK".as_slice());
-    let kept = [GTID, MAP, ROW, save, ROW, ROW, back, ROW, COMMIT];
-    assert!(rt; has(rt.alloc(), &kept, b"c2", None)?);
-    let later = [GTID, MAP, ROW, save, ROW, save, ROW, back, XID];
-    assert!(rt; has(rt.alloc(), &later, b"c2", None)?);
-    let none = [GTID, MAP, ROW, save, other, XID];
-    assert!(rt; has(rt.alloc(), &none, b"", Some(GroupFault::NoSavepoint))?);
-    let all = [GTID, MAP, ROW, rolled, GTID, MAP, ROW, XID];
-    assert!(rt; has(rt.alloc(), &all, b"r1c1", None)?);
-    Ok(())
-}
+const SAVEPOINT: (u8, u8, &[u8]) = (2, 0, b"\0\0\0\0\0\0\0\0\x01\0\0\0\0s\0SAVEPOINT `a`");
+
+const BACK: (u8, u8, &[u8]) = (2, 0, b"\0\0\0\0\0\0\0\0\x01\0\0\0\0s\0ROLLBACK TO `A`");
+
+const BACK_ELSEWHERE: (u8, u8, &[u8]) = (2, 0, b"\0\0\0\0\0\0\0\0\x01\0\0\0\0s\0ROLLBACK TO `b`");
+
+const ROLLBACK: (u8, u8, &[u8]) = (2, 0, b"\0\0\0\0\0\0\0\0\x01\0\0\0\0s\0ROLLBACK");
+
+const SAVEPOINTS: &[Case<'_>] = &[
+    // what was done before the savepoint stays
+    (
+        &[GTID, MAP, ROW, SAVEPOINT, ROW, ROW, BACK, ROW, COMMIT],
+        b"c2",
+        None,
+    ),
+    // the later of two under one name
+    (
+        &[GTID, MAP, ROW, SAVEPOINT, ROW, SAVEPOINT, ROW, BACK, XID],
+        b"c2",
+        None,
+    ),
+    // none of that name
+    (
+        &[GTID, MAP, ROW, SAVEPOINT, BACK_ELSEWHERE, XID],
+        b"",
+        Some(GroupFault::NoSavepoint),
+    ),
+    // all is taken back
+    (
+        &[GTID, MAP, ROW, ROLLBACK, GTID, MAP, ROW, XID],
+        b"r1c1",
+        None,
+    ),
+];
 
 #[test]
-fn statements_alone(rt: HostRuntime) -> Result<(), AllocError> {
-    let grant = (
-        2,
-        0,
-        b"\0\0\0\0\0\0\0\0\x01\0\0\0\0s\0grant all on *.* to a".as_slice(),
-    );
-    let insert = (
-        2,
-        0,
-        b"\0\0\0\0\0\0\0\0\x01\0\0\0\0s\0insert into t values (1)".as_slice(),
-    );
-    assert!(rt; has(rt.alloc(), &[ALONE, CREATE, ALONE, grant], b"c1c0", None)?);
-    assert!(rt; has(rt.alloc(), &[GTID, CREATE, MAP, ROW, XID], b"c2", None)?);
-    let fault = Some(GroupFault::Statement);
-    assert!(rt; has(rt.alloc(), &[ALONE, CREATE, GTID, insert], b"c1", fault)?);
-    assert!(rt; has(rt.alloc(), &[ALONE, BEGIN], b"", Some(GroupFault::Outside))?);
-    assert!(rt; has(rt.alloc(), &[ALONE, MAP], b"", Some(GroupFault::Outside))?);
-    assert!(rt; has(rt.alloc(), &[ALONE], b"", Some(GroupFault::Unended))?);
-    Ok(())
+fn savepoints(rt: HostRuntime) {
+    assert!(rt; matches!(have(rt.alloc(), SAVEPOINTS), Ok(true)));
 }
 
-#[test]
-fn transactions_of_mysql(rt: HostRuntime) -> Result<(), AllocError> {
-    let filled = (
-        2,
-        0,
-        b"\0\0\0\0\0\0\0\0\x01\0\0\0\0s\0CREATE TABLE `t` (`a` int) START TRANSACTION".as_slice(),
-    );
-    let second = (
-        30,
-        0,
-        b"\x12\0\0\0\0\0\x01\0\x05\0\x01\x02\x03\x02\x03\xfc\x03\0\0\0\x01x".as_slice(),
-    );
-    assert!(rt;
-        has(
-            rt.alloc(),
-            &[MYSQL, BEGIN, MAP, second, ROW, XID],
-            b"c2",
-            None
-        )?
-    );
-    assert!(rt;
-        has(
-            rt.alloc(),
-            &[MYSQL, CREATE, MYSQL, BEGIN, COMMIT],
-            b"c1c0",
-            None
-        )?
-    );
-    assert!(rt; has(rt.alloc(), &[MYSQL, filled, MAP, second, XID], b"c2", None)?);
-    let fault = Some(GroupFault::Outside);
-    assert!(rt; has(rt.alloc(), &[MYSQL, MAP], b"", fault)?);
-    assert!(rt; has(rt.alloc(), &[MYSQL, BEGIN, BEGIN], b"", fault)?);
-    assert!(rt; has(rt.alloc(), &[GTID, filled], b"", fault)?);
-    Ok(())
-}
+const GRANT: (u8, u8, &[u8]) = (
+    2,
+    0,
+    b"\0\0\0\0\0\0\0\0\x01\0\0\0\0s\0grant all on *.* to a",
+);
+
+const INSERT: (u8, u8, &[u8]) = (
+    2,
+    0,
+    b"\0\0\0\0\0\0\0\0\x01\0\0\0\0s\0insert into t values (1)",
+);
+
+const STATEMENTS_ALONE: &[Case<'_>] = &[
+    (&[ALONE, CREATE, ALONE, GRANT], b"c1c0", None),
+    (&[GTID, CREATE, MAP, ROW, XID], b"c2", None),
+    // a statement that changes rows
+    (
+        &[ALONE, CREATE, GTID, INSERT],
+        b"c1",
+        Some(GroupFault::Statement),
+    ),
+    (&[ALONE, BEGIN], b"", Some(GroupFault::Outside)),
+    (&[ALONE, MAP], b"", Some(GroupFault::Outside)),
+    (&[ALONE], b"", Some(GroupFault::Unended)),
+];
 
 #[test]
-fn xa_transactions(rt: HostRuntime) -> Result<(), AllocError> {
-    let end = (
-        2,
-        0,
-        b"\0\0\0\0\0\0\0\0\0\0\0\0\0\0XA END X'67',X'',1".as_slice(),
-    );
-    let commit = (
-        2,
-        0,
-        b"\0\0\0\0\0\0\0\0\0\0\0\0\0\0XA COMMIT X'67',X'',1".as_slice(),
-    );
-    let back = (
-        2,
-        0,
-        b"\0\0\0\0\0\0\0\0\0\0\0\0\0\0XA ROLLBACK X'67',X'',1".as_slice(),
-    );
-    let prepared = (38, 0, b"\0\x01\0\0\0\x01\0\0\0\0\0\0\0g".as_slice());
-    let at_once = (38, 0, b"\x01\x01\0\0\0\x01\0\0\0\0\0\0\0g".as_slice());
-    let both = [XA, MAP, ROW, end, prepared, XA_ENDED, commit];
-    assert!(rt; has(rt.alloc(), &both, b"p1C0", None)?);
-    let none = [XA, MAP, ROW, end, prepared, XA_ENDED, back];
-    assert!(rt; has(rt.alloc(), &none, b"p1R0", None)?);
-    assert!(rt; has(rt.alloc(), &[XA, MAP, ROW, end, at_once], b"c1", None)?);
-    Ok(())
+fn statements_alone(rt: HostRuntime) {
+    assert!(rt; matches!(have(rt.alloc(), STATEMENTS_ALONE), Ok(true)));
+}
+
+/// A table that is made and filled, and a row in the events of MySQL.
+const FILLED: (u8, u8, &[u8]) = (
+    2,
+    0,
+    b"\0\0\0\0\0\0\0\0\x01\0\0\0\0s\0CREATE TABLE `t` (`a` int) START TRANSACTION",
+);
+
+const SECOND: (u8, u8, &[u8]) = (
+    30,
+    0,
+    b"\x12\0\0\0\0\0\x01\0\x05\0\x01\x02\x03\x02\x03\xfc\x03\0\0\0\x01x",
+);
+
+const OF_MYSQL: &[Case<'_>] = &[
+    (&[MYSQL, BEGIN, MAP, SECOND, ROW, XID], b"c2", None),
+    (&[MYSQL, CREATE, MYSQL, BEGIN, COMMIT], b"c1c0", None),
+    (&[MYSQL, FILLED, MAP, SECOND, XID], b"c2", None),
+    (&[MYSQL, MAP], b"", Some(GroupFault::Outside)),
+    (&[MYSQL, BEGIN, BEGIN], b"", Some(GroupFault::Outside)),
+    // MariaDB writes none
+    (&[GTID, FILLED], b"", Some(GroupFault::Outside)),
+];
+
+#[test]
+fn transactions_of_mysql(rt: HostRuntime) {
+    assert!(rt; matches!(have(rt.alloc(), OF_MYSQL), Ok(true)));
+}
+
+const XA_END: (u8, u8, &[u8]) = (2, 0, b"\0\0\0\0\0\0\0\0\0\0\0\0\0\0XA END X'67',X'',1");
+
+const XA_COMMIT: (u8, u8, &[u8]) = (2, 0, b"\0\0\0\0\0\0\0\0\0\0\0\0\0\0XA COMMIT X'67',X'',1");
+
+const XA_ROLLBACK: (u8, u8, &[u8]) = (2, 0, b"\0\0\0\0\0\0\0\0\0\0\0\0\0\0XA ROLLBACK X'67',X'',1");
+
+/// The end of a preparation, of one in one phase, and of one under another name.
+const PREPARED: (u8, u8, &[u8]) = (38, 0, b"\0\x01\0\0\0\x01\0\0\0\0\0\0\0g");
+
+const AT_ONCE: (u8, u8, &[u8]) = (38, 0, b"\x01\x01\0\0\0\x01\0\0\0\0\0\0\0g");
+
+const PREPARED_ELSEWHERE: (u8, u8, &[u8]) = (38, 0, b"\0\x01\0\0\0\x01\0\0\0\0\0\0\0h");
+
+const OF_XA: &[Case<'_>] = &[
+    (
+        &[XA, MAP, ROW, XA_END, PREPARED, XA_ENDED, XA_COMMIT],
+        b"p1C0",
+        None,
+    ),
+    (
+        &[XA, MAP, ROW, XA_END, PREPARED, XA_ENDED, XA_ROLLBACK],
+        b"p1R0",
+        None,
+    ),
+    (&[XA, MAP, ROW, XA_END, AT_ONCE], b"c1", None),
+];
+
+#[test]
+fn xa_transactions(rt: HostRuntime) {
+    assert!(rt; matches!(have(rt.alloc(), OF_XA), Ok(true)));
 }
 
 /// How many changes each group of a log has, and the fault that ends them.
@@ -280,127 +306,121 @@ fn read_groups(alloc: Global, bytes: &[u8]) -> Result<(Vec<u8>, Option<GroupFaul
     Ok((found, None))
 }
 
-/// Whether a log of these events has groups of so many changes, and ends so.
-fn commits(
-    alloc: Global,
-    events: &[(u8, u8, &[u8])],
-    wanted: &[u8],
-    end: Option<GroupFault>,
-) -> Result<bool, AllocError> {
-    let (found, fault) = read_groups(alloc, &log_with(alloc, events)?)?;
-    Ok(found.as_slice() == wanted && fault == end)
+/// Whether the log of each case has groups of so many changes, and ends so.
+fn commit(alloc: Global, cases: &[Case<'_>]) -> Result<bool, AllocError> {
+    for (events, wanted, end) in cases {
+        let (found, fault) = read_groups(alloc, &log_with(alloc, events)?)?;
+        if found.as_slice() != *wanted || fault != *end {
+            return Ok(false);
+        }
+    }
+    Ok(true)
+}
+
+const OF_PREPARED: &[Case<'_>] = &[
+    // a further transaction between a preparation and its end
+    (
+        &[
+            XA, MAP, ROW, PREPARED, GTID, MAP, ROW, ROW, XID, XA_ENDED, XA_COMMIT,
+        ],
+        b"021",
+        None,
+    ),
+    (
+        &[
+            XA,
+            MAP,
+            ROW,
+            PREPARED,
+            XA_ENDED,
+            XA_ROLLBACK,
+            GTID,
+            MAP,
+            ROW,
+            ROLLBACK,
+        ],
+        b"000",
+        None,
+    ),
+    // one of two is left at the end
+    (
+        &[
+            XA,
+            MAP,
+            ROW,
+            PREPARED_ELSEWHERE,
+            XA,
+            MAP,
+            ROW,
+            ROW,
+            PREPARED,
+            XA_ENDED,
+            XA_COMMIT,
+        ],
+        b"002",
+        Some(GroupFault::StillPrepared),
+    ),
+    (
+        &[XA, MAP, ROW, PREPARED, XA, MAP, ROW, PREPARED],
+        b"0",
+        Some(GroupFault::Twice),
+    ),
+    (
+        &[GTID, MAP, ROW, XID, XA_ENDED, XA_COMMIT],
+        b"1",
+        Some(GroupFault::NotPrepared),
+    ),
+    // one of no change doesn't wait
+    (&[XA, PREPARED], b"0", None),
+    (&[ALONE, XA_ROLLBACK], b"", Some(GroupFault::NotPrepared)),
+];
+
+#[test]
+fn groups_of_prepared_transactions(rt: HostRuntime) {
+    assert!(rt; matches!(commit(rt.alloc(), OF_PREPARED), Ok(true)));
+}
+
+const NO_TRANSACTIONS: &[Case<'_>] = &[
+    (&[ROW], b"", Some(GroupFault::Outside)),
+    (&[GTID, XID, XID], b"c0", Some(GroupFault::Outside)),
+    (&[GTID, GTID], b"", Some(GroupFault::Outside)),
+    (&[GTID, ROW], b"", Some(GroupFault::NoTable)),
+    // a map is of its transaction alone
+    (
+        &[GTID, MAP, ROW, XID, GTID, ROW],
+        b"c1",
+        Some(GroupFault::NoTable),
+    ),
+    (&[GTID, MAP, ROW], b"", Some(GroupFault::Unended)),
+    (&[GTID, (19, 0, b"\x12\0")], b"", Some(GroupFault::Body)),
+    (&[GTID, (26, 0, b"")], b"", Some(GroupFault::Refused(154))),
+    (&[(34, 0, b"")], b"", Some(GroupFault::Refused(157))),
+    (&[(200, 0, b"")], b"", Some(GroupFault::Refused(155))),
+    // what a reader may pass over
+    (&[(200, 128, b""), GTID, (200, 128, b""), XID], b"c0", None),
+];
+
+/// Faults and their numbers.
+const NUMBERS: &[(GroupFault, u8)] = &[
+    (GroupFault::Unended, 156),
+    (GroupFault::Event(EventFault::Cut), 141),
+    (GroupFault::Refused(153), 153),
+];
+
+/// Whether faults have these numbers.
+fn are_numbers(numbers: &[(GroupFault, u8)]) -> bool {
+    for (fault, number) in numbers {
+        if fault.number() != *number {
+            return false;
+        }
+    }
+    true
 }
 
 #[test]
-fn groups_of_prepared_transactions(rt: HostRuntime) -> Result<(), AllocError> {
-    let commit = (
-        2,
-        0,
-        b"\0\0\0\0\0\0\0\0\0\0\0\0\0\0XA COMMIT X'67',X'',1".as_slice(),
-    );
-    let back = (
-        2,
-        0,
-        b"\0\0\0\0\0\0\0\0\0\0\0\0\0\0XA ROLLBACK X'67',X'',1".as_slice(),
-    );
-    let rolled = (2, 0, b"\0\0\0\0\0\0\0\0\x01\0\0\0\0s\0ROLLBACK".as_slice());
-    let prepared = (38, 0, b"\0\x01\0\0\0\x01\0\0\0\0\0\0\0g".as_slice());
-    let other = (38, 0, b"\0\x01\0\0\0\x01\0\0\0\0\0\0\0h".as_slice());
-    let between = [
-        XA, MAP, ROW, prepared, GTID, MAP, ROW, ROW, XID, XA_ENDED, commit,
-    ];
-    assert!(rt; commits(rt.alloc(), &between, b"021", None)?);
-    let gone = [
-        XA, MAP, ROW, prepared, XA_ENDED, back, GTID, MAP, ROW, rolled,
-    ];
-    assert!(rt; commits(rt.alloc(), &gone, b"000", None)?);
-    let two = [
-        XA, MAP, ROW, other, XA, MAP, ROW, ROW, prepared, XA_ENDED, commit,
-    ];
-    assert!(rt; commits(rt.alloc(), &two, b"002", Some(GroupFault::StillPrepared))?);
-    let twice = [XA, MAP, ROW, prepared, XA, MAP, ROW, prepared];
-    assert!(rt; commits(rt.alloc(), &twice, b"0", Some(GroupFault::Twice))?);
-    let none = [GTID, MAP, ROW, XID, XA_ENDED, commit];
-    assert!(rt; commits(rt.alloc(), &none, b"1", Some(GroupFault::NotPrepared))?);
-    assert!(rt; commits(rt.alloc(), &[XA, prepared], b"0", None)?);
-    assert!(rt;
-        commits(
-            rt.alloc(),
-            &[ALONE, back],
-            b"",
-            Some(GroupFault::NotPrepared)
-        )?
-    );
-    Ok(())
-}
-
-#[test]
-fn what_makes_no_transaction(rt: HostRuntime) -> Result<(), AllocError> {
-    let outside = Some(GroupFault::Outside);
-    assert!(rt; has(rt.alloc(), &[ROW], b"", outside)?);
-    assert!(rt; has(rt.alloc(), &[GTID, XID, XID], b"c0", outside)?);
-    assert!(rt; has(rt.alloc(), &[GTID, GTID], b"", outside)?);
-    assert!(rt; has(rt.alloc(), &[GTID, ROW], b"", Some(GroupFault::NoTable))?);
-    assert!(rt;
-        has(
-            rt.alloc(),
-            &[GTID, MAP, ROW, XID, GTID, ROW],
-            b"c1",
-            Some(GroupFault::NoTable)
-        )?
-    );
-    assert!(rt;
-        has(
-            rt.alloc(),
-            &[GTID, MAP, ROW],
-            b"",
-            Some(GroupFault::Unended)
-        )?
-    );
-    assert!(rt;
-        has(
-            rt.alloc(),
-            &[GTID, (19, 0, b"\x12\0")],
-            b"",
-            Some(GroupFault::Body)
-        )?
-    );
-    assert!(rt;
-        has(
-            rt.alloc(),
-            &[GTID, (26, 0, b"")],
-            b"",
-            Some(GroupFault::Refused(154))
-        )?
-    );
-    assert!(rt;
-        has(
-            rt.alloc(),
-            &[(34, 0, b"")],
-            b"",
-            Some(GroupFault::Refused(157))
-        )?
-    );
-    assert!(rt;
-        has(
-            rt.alloc(),
-            &[(200, 0, b"")],
-            b"",
-            Some(GroupFault::Refused(155))
-        )?
-    );
-    assert!(rt;
-        has(
-            rt.alloc(),
-            &[(200, 128, b""), GTID, (200, 128, b""), XID],
-            b"c0",
-            None
-        )?
-    );
-    assert_eq!(rt; GroupFault::Unended.number(), 156);
-    assert_eq!(rt; GroupFault::Event(EventFault::Cut).number(), 141);
-    assert_eq!(rt; GroupFault::Refused(153).number(), 153);
-    Ok(())
+fn what_makes_no_transaction(rt: HostRuntime) {
+    assert!(rt; matches!(have(rt.alloc(), NO_TRANSACTIONS), Ok(true)));
+    assert!(rt; are_numbers(NUMBERS));
 }
 
 /// Statements, each with what it is.
@@ -439,11 +459,19 @@ const STATEMENTS: &[(&[u8], Statement)] = &[
     (b"", Statement::Unknown),
 ];
 
+/// Whether statements are these.
+fn are_said(statements: &[(&[u8], Statement)]) -> bool {
+    for (text, wanted) in statements {
+        if statement_of(text) != *wanted {
+            return false;
+        }
+    }
+    true
+}
+
 #[test]
 fn statements_by_their_texts(rt: HostRuntime) {
-    for (text, wanted) in STATEMENTS {
-        assert_eq!(rt; statement_of(text), *wanted);
-    }
+    assert!(rt; are_said(STATEMENTS));
 }
 
 /// Whether a transaction has so many changes, the first of them rows of the table `t` with two columns.
@@ -456,17 +484,21 @@ fn changes_t(transaction: &Transaction<'_>, count: usize) -> bool {
     }
 }
 
-#[test]
-fn what_a_transaction_does(rt: HostRuntime) -> Result<(), AllocError> {
-    let log = log_with(rt.alloc(), &[GTID, MAP, ROW, ROW, XID])?;
-    let table = CrcTable::new(rt.alloc())?;
+/// Whether the first transaction of a log has these changes.
+fn does(alloc: Global) -> Result<bool, AllocError> {
+    let log = log_with(alloc, &[GTID, MAP, ROW, ROW, XID])?;
+    let table = CrcTable::new(alloc)?;
     let Ok(opened) = log_of(&table, &log) else {
-        return Ok(());
+        return Ok(false);
     };
     let mut transactions = Transactions::new(opened.events);
-    match transactions.next_transaction(rt.alloc()) {
-        Ok(Some(transaction)) => assert!(rt; changes_t(&transaction, 2)),
-        _ => assert!(rt; false),
+    match transactions.next_transaction(alloc) {
+        Ok(Some(transaction)) => Ok(changes_t(&transaction, 2)),
+        _ => Ok(false),
     }
-    Ok(())
+}
+
+#[test]
+fn what_a_transaction_does(rt: HostRuntime) {
+    assert!(rt; matches!(does(rt.alloc()), Ok(true)));
 }

@@ -50,29 +50,74 @@ pub(crate) fn rows_behind(kind: RowsKind, body: &'static [u8]) -> &'static [u8] 
     }
 }
 
+/// Whether the next change of rows has these cells before and after it.
+pub(crate) fn is_next(
+    rows: &mut Rows<'_, '_>,
+    before: &mut WrittenCells,
+    after: &mut WrittenCells,
+    old: (&[u8], &[u8]),
+    new: (&[u8], &[u8]),
+) -> bool {
+    matches!(rows.next_change(before, after), Ok(true))
+        && are(before, old.0, old.1)
+        && are(after, new.0, new.1)
+}
+
+/// Whether rows have no further change, however often they are asked.
+pub(crate) fn are_ended(
+    rows: &mut Rows<'_, '_>,
+    before: &mut WrittenCells,
+    after: &mut WrittenCells,
+) -> bool {
+    matches!(rows.next_change(before, after), Ok(false))
+        && matches!(rows.next_change(before, after), Ok(false))
+}
+
+/// What stands before an inserted row.
+pub(crate) const NOTHING: (&[u8], &[u8]) = (&[], &[]);
+
+/// Whether a body is the head of the insert.
+fn is_insert(body: &[u8]) -> bool {
+    match rows_of(RowsKind::Write, false, body) {
+        Ok(head) => head.table == 18 && head.has_all(19) && !head.has_all(18),
+        Err(_) => false,
+    }
+}
+
 #[test]
 fn rows_of_a_server(rt: HostRuntime) -> Result<(), AllocError> {
     let alloc = rt.alloc();
+    assert!(rt; is_insert(INSERT));
     let found = columns_there(alloc, ALL_TYPES, &all_columns(alloc)?)?;
     assert!(rt; found.len() == 19);
-    let head = rows_of(RowsKind::Write, false, INSERT);
-    assert!(rt;
-        matches!(head, Ok(head) if head.table == 18 && head.has_all(19) && !head.has_all(18))
-    );
     let mut rows = Rows::new(
         RowsKind::Write,
         &found,
         rows_behind(RowsKind::Write, INSERT),
     );
     let (mut before, mut after) = (WrittenCells::new(alloc), WrittenCells::new(alloc));
-    assert_eq!(rt; rows.next_change(&mut before, &mut after), Ok(true));
-    assert!(rt; are(&before, &[], &[]) && are(&after, LENGTHS, VALUES));
-    assert_eq!(rt; rows.next_change(&mut before, &mut after), Ok(true));
-    assert!(rt; are(&before, &[], &[]) && are(&after, NULL_LENGTHS, b"2"));
-    assert_eq!(rt; rows.next_change(&mut before, &mut after), Ok(false));
-    assert_eq!(rt; rows.next_change(&mut before, &mut after), Ok(false));
+    assert!(rt;
+        is_next(
+            &mut rows,
+            &mut before,
+            &mut after,
+            NOTHING,
+            (LENGTHS, VALUES)
+        ) && is_next(
+            &mut rows,
+            &mut before,
+            &mut after,
+            NOTHING,
+            (NULL_LENGTHS, b"2")
+        ) && are_ended(&mut rows, &mut before, &mut after)
+    );
     Ok(())
 }
+
+/// The rows of the update, by their lengths and values.
+const OLD: (&[u8], &[u8]) = (&[2, 4, 2, 2, 2], b"7-1cyq");
+
+const NEW: (&[u8], &[u8]) = (&[2, 1, 2, 2, 2], b"7cyq");
 
 #[test]
 fn both_rows_of_an_update(rt: HostRuntime) -> Result<(), AllocError> {
@@ -85,11 +130,10 @@ fn both_rows_of_an_update(rt: HostRuntime) -> Result<(), AllocError> {
         rows_behind(RowsKind::Update, UPDATE),
     );
     let (mut before, mut after) = (WrittenCells::new(alloc), WrittenCells::new(alloc));
-    assert_eq!(rt; rows.next_change(&mut before, &mut after), Ok(true));
     assert!(rt;
-        are(&before, &[2, 4, 2, 2, 2], b"7-1cyq") && are(&after, &[2, 1, 2, 2, 2], b"7cyq")
+        is_next(&mut rows, &mut before, &mut after, OLD, NEW)
+            && are_ended(&mut rows, &mut before, &mut after)
     );
-    assert_eq!(rt; rows.next_change(&mut before, &mut after), Ok(false));
     Ok(())
 }
 
@@ -98,6 +142,33 @@ const FIRST: usize = 12;
 
 const SECOND: usize = 91;
 
+/// Whether the insert is read in this way, cut to so many bytes.
+fn is_cut_well(
+    found: &[LogColumn<'static>],
+    size: usize,
+    before: &mut WrittenCells,
+    after: &mut WrittenCells,
+) -> bool {
+    if found.is_empty() {
+        return false;
+    }
+    let body = front(INSERT, size);
+    let head = rows_of(RowsKind::Write, false, body);
+    if (size < FIRST) != matches!(head, Err(RowFault::CutHead)) {
+        return false;
+    }
+    let mut rows = Rows::new(RowsKind::Write, found, rows_behind(RowsKind::Write, body));
+    if size >= SECOND && !matches!(rows.next_change(before, after), Ok(true)) {
+        return false;
+    }
+    match rows.next_change(before, after) {
+        Ok(more) => !more && (size <= FIRST || size == SECOND),
+        Err(error) => {
+            error == RowError::Fault(ValueFault::CutValue) && size > FIRST && size != SECOND
+        }
+    }
+}
+
 #[test]
 fn rows_cut_at_every_byte(rt: HostRuntime) -> Result<(), AllocError> {
     let alloc = rt.alloc();
@@ -105,51 +176,49 @@ fn rows_cut_at_every_byte(rt: HostRuntime) -> Result<(), AllocError> {
     assert!(rt; found.len() == 19);
     let (mut before, mut after) = (WrittenCells::new(alloc), WrittenCells::new(alloc));
     for size in 0..INSERT.len() {
-        let body = front(INSERT, size);
-        let head = rows_of(RowsKind::Write, false, body);
-        assert!(rt;
-            if size < FIRST {
-                head == Err(RowFault::CutHead)
-            } else {
-                head.is_ok()
-            }
-        );
-        let mut rows = Rows::new(RowsKind::Write, &found, rows_behind(RowsKind::Write, body));
-        let mut last = rows.next_change(&mut before, &mut after);
-        if size >= SECOND {
-            assert_eq!(rt; last, Ok(true));
-            last = rows.next_change(&mut before, &mut after);
-        }
-        if size <= FIRST || size == SECOND {
-            assert_eq!(rt; last, Ok(false));
-        } else {
-            assert_eq!(rt; last, Err(RowError::Fault(ValueFault::CutValue)));
-        }
+        assert!(rt; is_cut_well(&found, size, &mut before, &mut after));
     }
     Ok(())
 }
 
+/// Types of events, and what they do to rows.
+const KINDS: &[(u8, Option<(RowsKind, bool)>)] = &[
+    (31, Some((RowsKind::Update, true))),
+    (23, Some((RowsKind::Write, false))),
+    (22, None),
+];
+
+/// Whether types of events are these.
+fn are_of_kinds() -> bool {
+    for (number, kind) in KINDS {
+        if kind_of_event(*number) != *kind {
+            return false;
+        }
+    }
+    true
+}
+
+/// Whether a body of the second version has these rows of two columns behind its head, of both or not.
+fn has_rows(body: &[u8], rows: &[u8], has_all: bool) -> bool {
+    match rows_of(RowsKind::Delete, true, body) {
+        Ok(head) => {
+            head.table == 22 && head.count == 2 && head.has_all(2) == has_all && head.rows == rows
+        }
+        Err(_) => false,
+    }
+}
+
+/// Bodies of the second version: with what they say beside their rows, without a column, and cut.
+const WITH_MORE: &[u8] = b"\x16\0\0\0\0\0\x01\0\x05\0\x01\x02\x03\x02\x03\x01rows";
+
+const WITH_FEWER: &[u8] = b"\x16\0\0\0\0\0\x01\0\x02\0\x02\x01rows";
+
+const CUT: &[u8] = b"\x16\0\0\0\0\0\x01\0\x01\0\x02\x03";
+
 #[test]
-fn rows_of_the_second_version(rt: HostRuntime) -> Result<(), AllocError> {
-    assert_eq!(rt; kind_of_event(31), Some((RowsKind::Update, true)));
-    assert_eq!(rt; kind_of_event(23), Some((RowsKind::Write, false)));
-    assert_eq!(rt; kind_of_event(22), None);
-    let body = b"\x16\0\0\0\0\0\x01\0\x05\0\x01\x02\x03\x02\x03\x01rows";
-    let head = rows_of(RowsKind::Delete, true, body);
-    assert!(rt; matches!(head, Ok(head) if head.count == 2 && head.table == 22));
-    assert!(rt; matches!(head, Ok(head) if head.has_all(2) && head.rows == b"\x01rows".as_slice()));
-    let few = rows_of(
-        RowsKind::Delete,
-        true,
-        b"\x16\0\0\0\0\0\x01\0\x02\0\x02\x01rows",
-    );
-    assert!(rt; matches!(few, Ok(head) if !head.has_all(2)));
-    let cut = rows_of(
-        RowsKind::Delete,
-        true,
-        b"\x16\0\0\0\0\0\x01\0\x01\0\x02\x03",
-    );
-    assert_eq!(rt; cut, Err(RowFault::CutHead));
-    assert_eq!(rt; RowFault::NotAllColumns.number(), 147);
-    Ok(())
+fn rows_of_the_second_version(rt: HostRuntime) {
+    assert!(rt; are_of_kinds());
+    assert!(rt; has_rows(WITH_MORE, b"\x01rows", true) && has_rows(WITH_FEWER, b"rows", false));
+    assert!(rt; matches!(rows_of(RowsKind::Delete, true, CUT), Err(RowFault::CutHead)));
+    assert!(rt; RowFault::NotAllColumns.number() == 147);
 }

@@ -1,12 +1,12 @@
 //! SETs in character sets of several commas, with an empty label first, in the middle and last, as a server wrote them and
 //! printed their values.
 
-use crate::rows::{are, columns_there, rows_behind};
+use crate::rows::{NOTHING, are_ended, columns_there, is_next, rows_behind};
 use crate::tables::columns;
 use log_rows::*;
 use log_tables::TableFault;
 use log_values::{Comma, comma_of};
-use std::alloc::AllocError;
+use std::alloc::{AllocError, Global};
 
 /// A table of SETs of '', 'a' and 'b' in six character sets, of ENUM in utf32, and of SETs of 'a', '' and 'b' in utf16 and of
 /// 'a', 'b' and '' in ucs2; the collation of each column is told.
@@ -53,11 +53,21 @@ fn sets_of_a_server(rt: HostRuntime) -> Result<(), AllocError> {
         rows_behind(RowsKind::Write, SETS_ROWS),
     );
     let (mut before, mut after) = (WrittenCells::new(alloc), WrittenCells::new(alloc));
-    assert_eq!(rt; rows.next_change(&mut before, &mut after), Ok(true));
-    assert!(rt; are(&after, FIRST_LENGTHS, FIRST_ROW));
-    assert_eq!(rt; rows.next_change(&mut before, &mut after), Ok(true));
-    assert!(rt; are(&after, SECOND_LENGTHS, SECOND_ROW));
-    assert_eq!(rt; rows.next_change(&mut before, &mut after), Ok(false));
+    assert!(rt;
+        is_next(
+            &mut rows,
+            &mut before,
+            &mut after,
+            NOTHING,
+            (FIRST_LENGTHS, FIRST_ROW)
+        ) && is_next(
+            &mut rows,
+            &mut before,
+            &mut after,
+            NOTHING,
+            (SECOND_LENGTHS, SECOND_ROW)
+        ) && are_ended(&mut rows, &mut before, &mut after)
+    );
     Ok(())
 }
 
@@ -84,9 +94,13 @@ const MORE_COLUMNS: &[(&[u8], u32)] = &[
     (b"c8", 2075),
 ];
 
-/// An insert of a row of all labels.
+/// An insert of a row of all labels, and what SELECT prints of it.
 const MORE_ROWS: &[u8] =
     b"\x19\0\0\0\0\0\x01\0\x0a\xff\x03\0\xfc\x01\0\0\0\x07\x07\x07\x07\x07\x07\x07\x07\x07";
+
+const MORE_LENGTHS: &[u8] = &[2, 6, 6, 6, 6, 6, 12, 6, 6, 24];
+
+const MORE_ROW: &[u8] = b"1a,ba,ba,ba,ba,ba\0,\0b\0a,ba,b\0\0\0a\0\0\0,\0\0\0b";
 
 #[test]
 fn sets_of_a_usual_collation(rt: HostRuntime) -> Result<(), AllocError> {
@@ -99,33 +113,59 @@ fn sets_of_a_usual_collation(rt: HostRuntime) -> Result<(), AllocError> {
         rows_behind(RowsKind::Write, MORE_ROWS),
     );
     let (mut before, mut after) = (WrittenCells::new(alloc), WrittenCells::new(alloc));
-    assert_eq!(rt; rows.next_change(&mut before, &mut after), Ok(true));
     assert!(rt;
-        are(
-            &after,
-            &[2, 6, 6, 6, 6, 6, 12, 6, 6, 24],
-            b"1a,ba,ba,ba,ba,ba\0,\0b\0a,ba,b\0\0\0a\0\0\0,\0\0\0b"
+        is_next(
+            &mut rows,
+            &mut before,
+            &mut after,
+            NOTHING,
+            (MORE_LENGTHS, MORE_ROW)
         )
     );
     Ok(())
 }
 
+/// Places in the part of the collations, other bytes there, and the fault.
+const OTHER_COLLATIONS: &[(usize, u8, TableFault)] = &[
+    // no server has a collation with the number 100
+    (COLLATIONS + 4, 100, TableFault::OtherType),
+    // a place that no column has
+    (COLLATIONS + 5, 9, TableFault::CutBody),
+];
+
+/// Whether the columns of a map are refused by a fault.
+fn is_refused(alloc: Global, body: &[u8], wanted: TableFault) -> Result<bool, AllocError> {
+    match columns(alloc, body, MORE_COLUMNS)? {
+        Ok(_) => Ok(false),
+        Err(fault) => Ok(fault == wanted),
+    }
+}
+
+/// Whether the map is refused with each other byte among its collations.
+fn are_refused(alloc: Global) -> Result<bool, AllocError> {
+    for (place, byte, fault) in OTHER_COLLATIONS {
+        let mut other = Vec::from_slice(alloc, MORE)?;
+        if let Some(there) = other.get_mut(*place) {
+            *there = *byte;
+        }
+        if !is_refused(alloc, &other, *fault)? {
+            return Ok(false);
+        }
+    }
+    Ok(true)
+}
+
 #[test]
 fn sets_whose_comma_is_not_known(rt: HostRuntime) -> Result<(), AllocError> {
-    let alloc = rt.alloc();
-    let mut untold = Vec::from_slice(alloc, &MORE[..COLLATIONS])?;
+    let mut untold = Vec::from_slice(rt.alloc(), &MORE[..COLLATIONS])?;
     untold.extend_from_slice(&MORE[BEHIND..])?;
-    let other_type = Some(TableFault::OtherType);
-    assert_eq!(rt; columns(alloc, &untold, MORE_COLUMNS)?.err(), other_type);
-    // no server has a collation with the number 100
-    let mut other = Vec::from_slice(alloc, MORE)?;
-    other[COLLATIONS + 4] = 100;
-    assert_eq!(rt; columns(alloc, &other, MORE_COLUMNS)?.err(), other_type);
-    // a place that no column has
-    let mut placed = Vec::from_slice(alloc, MORE)?;
-    placed[COLLATIONS + 5] = 9;
-    let cut = Some(TableFault::CutBody);
-    assert_eq!(rt; columns(alloc, &placed, MORE_COLUMNS)?.err(), cut);
+    assert!(rt;
+        matches!(
+            is_refused(rt.alloc(), &untold, TableFault::OtherType),
+            Ok(true)
+        )
+    );
+    assert!(rt; matches!(are_refused(rt.alloc()), Ok(true)));
     Ok(())
 }
 
@@ -154,9 +194,17 @@ const COMMAS: &[(u64, Option<Comma>)] = &[
     (3328, None),
 ];
 
+/// Whether collations have these commas.
+fn are_commas() -> bool {
+    for (collation, comma) in COMMAS {
+        if comma_of(*collation) != *comma {
+            return false;
+        }
+    }
+    true
+}
+
 #[test]
 fn commas_of_collations(rt: HostRuntime) {
-    for (collation, comma) in COMMAS {
-        assert_eq!(rt; comma_of(*collation), *comma, "{collation}");
-    }
+    assert!(rt; are_commas());
 }
