@@ -1,0 +1,4 @@
+-- What serves the crate's own code alone.
+pub mod Keys
+pub mod Grown
+pub mod Kept
