@@ -9,12 +9,12 @@ An edit is a file tests/edits/CRATE/NAME.edit, named for the bug that it plants,
 function, below the crate, whose contract has to refuse the new body, as the prover names it: a method by its type and
 that one's file, wherever it stands, as `set::GtidSet::add`; one of a trait by type and trait, as `printed::GtidSetDisplay::fmt`.
 
-Each edit with such a line is tried over the libraries that `rt ci` has just proved (scripts/proved.py): the function and
+Each edit has such a line, and is tried over the libraries that `rt ci` has just proved (scripts/proved.py): the function and
 what it calls are proved, and not the rest of the crate, as `rt ci` does of edits in must-fail/. Edits of one crate are
 tried together, but no two of one function. The function may not be proved, and for a fault in its own proof, not only
 because another edited one that it calls isn't. Where `rt ci` hasn't just run, `rt check` proves what lies below first.
 
-With --whole each edit, with such a line or none, is put into must-fail/ of a copy of the tree and tried by `rt must-fail`,
+With --whole each edit is put into must-fail/ of a copy of the tree and tried by `rt must-fail`,
 which proves the whole crate with it: for days of a release. The last line is 'N passed, M failed', one an edit.
 """
 import collections
@@ -229,11 +229,12 @@ def main(*given: str) -> int:
             checked, many = over_rt(top), 1
         pool = stack.enter_context(concurrent.futures.ThreadPoolExecutor(many))
         told = [line for lines in pool.map(lambda part: tried(part, checked), parts) for line in lines]
-    for line in told:
+    unnamed = [f"{it.crate}/{it.name}: no line 'at: ' names the function that has to refuse it" for of_crate in these.values() for it in of_crate if not it.at]
+    for line in told + unnamed:
         print(line)
     counted = collections.Counter(it.crate for part in parts for it in part)
-    print(f"{sum(counted.values()) - len(told)} passed, {len(told)} failed")
-    return int(bool(told))
+    print(f"{sum(counted.values()) - len(told)} passed, {len(told + unnamed)} failed")
+    return int(bool(told or unnamed))
 
 
 if __name__ == "__main__":
