@@ -1,5 +1,5 @@
 -- Groups that stand ready are offered and applied.
-use Rattle.std.proofs.Common.{◌≡◌, ◌≢◌, ◌⊎◌, inl, inr, ℕ, zero, suc, ◌+◌, ◌<◌, ◌≤◌, Bool, true, false, List, [], ◌∷◌, ◌++◌, length, map, cond, Option, Some, None, Result, Ok, Err, slice_get, set, refl, sym, ap, subst, ◌∙◌, arith}
+use Rattle.std.proofs.Common.{◌≡◌, ◌≢◌, ◌⊎◌, inl, inr, ℕ, zero, suc, ◌+◌, ◌<◌, ◌≤◌, Bool, true, false, List, [], ◌∷◌, ◌++◌, length, map, cond, get_or, Option, Some, None, Result, Ok, Err, slice_get, set, refl, sym, ap, subst, ◌∙◌, arith}
 use Rattle.std.proofs.lemmas.Option.{same_Some, none-some, slice_get_within}
 use Rattle.std.specs.Prelude.{IfSome, IsOk, IsSomeAnd, nat_le}
 use Rattle.std.specs.Arc.{arc_value}
@@ -41,7 +41,7 @@ use Rattle.change_laws.proofs.GoingOn.{moved-goes_on}
 use Rattle.worker_rounds.specs.declared.ready.Ready.{Ready}
 use Rattle.worker_rounds.specs.Private.OnRound.{Gone, IsOnRound, Runs, MayApply, IsStepOn, IsReady, MayTakeIn}
 use Rattle.worker_rounds.proofs.StepsOnRounds.{Stepped, offer-applies_none, stepped-ok, stepped-err}
-use Rattle.worker_rounds.proofs.StreamsOnRounds.{fed-now}
+use Rattle.worker_rounds.proofs.StreamsOnRounds.{read-at, fed-now, may-still, offer-none, step-runs}
 
 -- ---- what the board's calls reply
 
@@ -212,3 +212,37 @@ module _ (fed : Fed) (most : ℕ) (old now new : Gone) (s : ℕ) (on : IsOnRound
   advanced-err answer r refusal is room step stopped =
       stepped-err fed most old now new s Advance fed.feeds (by_board answer r) (Refused refusal) refl (ap (by_board answer) is)
       (advance-replies fed.feeds old.board (fed-now fed most old on) s feed-here.0 feed-here.1 new.board answer r step) seen on tt runs (λ e. room) first stopped
+
+-- ---- a group that stands ready is taken in
+
+module _ (fed : Fed) (most : ℕ) (old new : Gone) (s n : ℕ) (ready : Ready) (on : IsOnRound fed most old) (still : IsOnRound fed most new) (may : MayTakeIn fed most old s n) (next : n ≡ (arc_value ready.group).number) (is_ready : IsReady fed s ready)
+    (made : Bool) (step : IsStepOn fed.feeds s (Offer (arc_value ready.group).number) made old new) (yes : made ≡ true) where
+  was-made : IsStepOn fed.feeds s (Offer (arc_value ready.group).number) true old new
+  was-made = subst (λ (b : Bool). IsStepOn fed.feeds s (Offer (arc_value ready.group).number) b old new) yes step
+
+  pub taken-runs : Runs new s
+  taken-runs = step-runs fed.feeds s (Offer (arc_value ready.group).number) old new may.runs was-made
+
+  pub taken-room : MayApply most fed.board new.board s
+  taken-room = may-still fed most old new on still s (offer-none fed.feeds s (arc_value ready.group).number true old new was-made) may.room
+
+  pub taken-puts : IfSome (slice_get new.board.streams s) (λ state. DoAsStep state advance ready.puts.changes.items)
+  taken-puts =
+      let less : s < length fed.feeds = slice_get_within fed.feeds s is_ready.feed is_ready.fed_by in
+      let first : (x : State) × (slice_get fed.board.streams s ≡ Some x) = place_of fed.board.streams s (let count = on.begun.count in omega (arith, less, count)) in
+      puts-there fed most old new s ready on (subst (λ (m : ℕ). MayTakeIn fed most old s m) next may) is_ready (fed-now fed most old on) was-made first.0 first.1
+
+-- ---- a group that is prepared beside the board
+
+pub stands-ready : (fed : Fed) (s n : ℕ) (feeds : List FeedValue) (feed : FeedValue) (marks : Marks) (ready : Ready) → feeds ≡ fed.feeds → s < length fed.feeds → feed ≡ get_or feeds s feed → prepared_at feed n ≡ Ok (arc_value ready.group) → (arc_value ready.group).number ≡ n
+    → option_map (λ (state : State). state.marks) (slice_get fed.board.streams s) ≡ Some marks → ((key : KeyValue) → last_at key_cmp ready.puts.changes.items key ≡ left_by marks (arc_value ready.group) key) → IsReady fed s ready
+stands-ready fed s n feeds feed marks ready same less is prepared number begun puts = record {
+  feed = feed;
+  fed_by = read-at fed.feeds feeds s feed same (subst (λ (fs : List FeedValue). s < length fs) (sym same) less) is;
+  prepared = ap (prepared_at feed) number ∙ prepared;
+  puts = by (slice_get fed.board.streams s) begun;
+}
+  where
+    by : (o : Option State) → option_map (λ (state : State). state.marks) o ≡ Some marks → IfSome o (λ state. (key : KeyValue) → last_at key_cmp ready.puts.changes.items key ≡ left_by state.marks (arc_value ready.group) key)
+    by None e = tt
+    by (Some state) e = λ key. puts key ∙ ap (λ (m : Marks). left_by m (arc_value ready.group) key) (sym (same_Some state.marks marks e))

@@ -1,7 +1,8 @@
 -- How a round begins, and how it ends.
-use Rattle.std.proofs.Common.{◌≡◌, ◌≢◌, ◌⊎◌, ◌==◌, inl, inr, ℕ, zero, suc, ◌+◌, ◌<◌, ◌≤◌, Bool, true, false, List, [], ◌∷◌, ◌++◌, length, length-append, map, Option, Some, None, Result, Ok, Err, slice_get, refl, sym, ap, subst, ◌∙◌, arith}
+use Rattle.std.proofs.Common.{◌≡◌, ◌≢◌, ◌⊎◌, ◌==◌, inl, inr, ℕ, zero, suc, ◌+◌, ◌<◌, ◌≤◌, Bool, true, false, List, [], ◌∷◌, ◌++◌, length, length-append, map, get_or, Option, Some, None, Result, Ok, Err, slice_get, refl, sym, ap, subst, ◌∙◌, arith}
 use Rattle.std.proofs.lemmas.Bool.{eqb-false}
-use Rattle.std.proofs.lemmas.Option.{same_Some, none-some, slice_get_within}
+use Rattle.std.proofs.lemmas.Option.{same_Some, none-some, slice_get_read, slice_get_within}
+use Rattle.std.specs.Prelude.{IfSome}
 use Rattle.std.specs.List.{AllByRecursion}
 use borrow.Author.Tests.{eq-eqb, eqb-true}
 use Rattle.list_laws.proofs.Places.{no_place, place_of, slice_get-push}
@@ -17,6 +18,7 @@ use Rattle.apply_core.proofs.PhasesTellNumbers.{running-done}
 use Rattle.change_laws.specs.Since.{HasGoneOn, HaveGoneOn, HasMoved}
 use Rattle.change_laws.proofs.GoingOn.{stands-still, moved-goes_on}
 use Rattle.worker_rounds.specs.Rounds.{OfStream, HasAppliedAll, HasAppliedMost, IsStopped, IsAnswer, AreAnswers, ApplyUpTo, AreRunning, HasEndedAs, HaveEndedAs}
+use Rattle.worker_rounds.proofs.StreamsOnRounds.{fed-now}
 use Rattle.worker_rounds.specs.Private.OnRound.{Gone, IsOnRound, AreAsideOf, IsFar, IsThrough, AreThrough, Gains, AppliesOne, AnswersBy, AreAnswersBy, applied_on}
 
 -- ---- at first
@@ -180,6 +182,22 @@ answers-more feeds board stopped longer answers more s feed state stop answer lo
       ];
 }
 
+-- the stream of the next answer
+pub next-within : {A : Type 0} (yielded rest more whole : List A) (x : A) (s n : ℕ) → yielded ++ rest ≡ whole → rest ≡ x ∷ more → s ≡ length yielded → length whole ≡ n → s < n
+next-within {A} yielded rest more whole x s n all next long count =
+    let a = ap (λ (xs : List A). length xs) all in
+    let b = length-append yielded rest in
+    let c = ap (λ (xs : List A). length xs) next in
+    omega (arith, a, b, c, long, count)
+
+pub answers-further : (feeds : List FeedValue) (board : Meaning) (yielded : List (Option StepRefusal)) (answers more : List (Result Bool StepRefusal)) (s : ℕ) (feed : FeedValue) (stop : Option StepRefusal) (answer : Result Bool StepRefusal)
+    → s ≡ length yielded → s < length feeds → length board.streams ≡ length feeds → feed ≡ get_or feeds s feed → IfSome (slice_get board.streams s) (λ state. AnswersBy feed state stop answer) → more ≡ answers ++ answer ∷ []
+    → AreAnswersBy feeds board yielded answers → AreAnswersBy feeds board (yielded ++ stop ∷ []) more
+answers-further feeds board yielded answers more s feed stop answer long less count is here is_more are =
+    let state : (x : State) × (slice_get board.streams s ≡ Some x) = place_of board.streams s (omega (arith, less, count)) in
+    answers-more feeds board yielded (yielded ++ stop ∷ []) answers more s feed state.0 stop answer (sym long) refl is_more (slice_get_read feeds (length feeds) s feed refl less is) state.1
+    (subst (λ (o : Option State). IfSome o (λ x. AnswersBy feed x stop answer)) state.1 here) are
+
 -- ---- streams that have copied all
 
 done-running : (state : State) → state.marks.done ≡ state.marks.tables → phase_of (standing_of state) ≡ Running
@@ -213,3 +231,33 @@ have-ended most feeds old new answers lawful moved running are = record {
   count = are.count;
   each = λ s. ended-as most feeds old new s lawful moved running (slice_get answers s) (are.each s);
 }
+
+-- ---- a whole round
+
+-- what a round leaves and answers
+abbrev pub Told : ℕ → List FeedValue → Meaning → List (Result Bool StepRefusal) → Meaning → Type 0
+Told most feeds old answers new = HasMoved feeds old new × AreAnswers most feeds old answers new × ApplyUpTo most old new × IsFedBoard feeds new
+
+-- of a board on its round whose streams are through
+pub round-told : (fed : Fed) (most count : ℕ) (feeds : List FeedValue) (old new : Meaning) (gone : Gone) (answers : List (Result Bool StepRefusal)) → feeds ≡ fed.feeds → old ≡ fed.board → count ≡ most → new ≡ gone.board → IsOnRound fed most gone
+    → AreThrough fed most gone (length fed.feeds) → AreAnswersBy fed.feeds gone.board gone.stopped answers → Told count feeds old answers new
+round-told fed most count feeds old new gone answers same_feeds same_old same_most same_new on through are =
+    subst (λ (fs : List FeedValue). Told count fs old answers new) (sym same_feeds)
+    (subst (λ (b : Meaning). Told count fed.feeds b answers new) (sym same_old)
+    (subst (λ (n : ℕ). Told n fed.feeds fed.board answers new) (sym same_most)
+    (subst (λ (b : Meaning). Told most fed.feeds fed.board answers b) (sym same_new) (on.moved, answers-are fed most gone answers on through are, on.upto, fed-now fed most gone on))))
+
+-- and of the board and its feeds that it began with
+pub round-back : (most : ℕ) (feeds lent : List FeedValue) (old given new back : Meaning) (answers : List (Result Bool StepRefusal)) → lent ≡ feeds → given ≡ old → back ≡ new → Told most lent given answers new → Told most feeds old answers back
+round-back most feeds lent old given new back answers same_feeds same_old same_new told =
+    subst (λ (fs : List FeedValue). Told most fs old answers back) same_feeds
+    (subst (λ (b : Meaning). Told most lent b answers back) same_old (subst (λ (b : Meaning). Told most lent given answers b) (sym same_new) told))
+
+-- a board that stays as it was
+pub still-moved : (feeds : List FeedValue) (board : Meaning) → HasMoved feeds board board
+still-moved feeds board = (stands-still feeds board).1
+
+pub still-upto : (most : ℕ) (board : Meaning) → ApplyUpTo most board board
+still-upto most board s before after stood stands =
+    let is : after ≡ before = same_Some after before (sym stands ∙ stood) in
+    subst (λ (x : State). x.applied ≤ before.applied + most) (sym is) (omega arith)

@@ -1,10 +1,12 @@
 -- What is so of one stream of a board on its round.
-use Rattle.std.proofs.Common.{◌≡◌, ◌≢◌, ◌⊎◌, inl, inr, ℕ, suc, ◌+◌, ◌^◌, ◌<◌, ◌≤◌, Bool, true, false, List, length, map, Option, Some, None, Result, Ok, Err, slice_get, set, refl, sym, ap, subst, ◌∙◌, arith}
-use Rattle.std.proofs.lemmas.List.{length-map}
-use Rattle.std.proofs.lemmas.Option.{same_Some, slice_get-map, slice_get_within}
-use Rattle.std.specs.Prelude.{IfSome, IsSomeAnd}
+use Rattle.std.proofs.Common.{◌≡◌, ◌≢◌, ◌⊎◌, inl, inr, ℕ, suc, ◌+◌, ◌^◌, ◌<◌, ◌≤◌, Bool, true, false, List, [], ◌∷◌, ◌++◌, length, map, take, get_or, Option, Some, None, Result, Ok, Err, slice_get, set, refl, sym, ap, subst, ◌∙◌, arith}
+use Rattle.std.proofs.lemmas.Bool.{true≢false}
+use Rattle.std.proofs.lemmas.List.{length-map, map-append, take_more}
+use Rattle.std.proofs.lemmas.Option.{same_Some, none-some, slice_get-map, slice_get_read, slice_get_within, get_or_from_slice_get}
+use Rattle.std.specs.Prelude.{IfSome, IsSomeAnd, is_some, not}
 use Rattle.std.specs.Option.{option_map}
 use Rattle.list_laws.proofs.Places.{place_of, slice_get-set_same}
+use Rattle.pk_copy.specs.Marks.{Marks}
 use Rattle.stream_core.specs.declared.step.Step.{Step}
 use Rattle.stream_core.specs.declared.step.Step.TheVariants.{Offer, Advance}
 use Rattle.stream_core.specs.Standing.{Standing}
@@ -18,8 +20,40 @@ use Rattle.board_laws.proofs.FedBoards.{run-fed}
 use Rattle.change_laws.specs.Since.{HasGoneOn, HaveGoneOn}
 use Rattle.change_laws.proofs.GoingOn.{moved-goes_on}
 use Rattle.worker_rounds.specs.Rounds.{OfStream, HasAppliedAll}
-use Rattle.worker_rounds.specs.Private.OnRound.{Gone, IsOnRound, Runs, IsStoppedIn, MayApply, IsStepOn, AppliesNone, AppliesOne, MayTakeIn, applied_on}
+use Rattle.worker_rounds.specs.Private.OnRound.{Gone, IsOnRound, Runs, IsStopAt, IsStoppedIn, MayApply, IsStepOn, AreAsideOf, AppliesNone, AppliesOne, IsThrough, MayTakeIn, applied_on}
 use Rattle.worker_rounds.proofs.StepsOnRounds.{offer-applies_none, advance-applies_one}
+
+-- ---- a list that is read at a place
+
+pub read-at : {A : Type 0} (xs ys : List A) (s : ℕ) (x : A) → ys ≡ xs → s < length ys → x ≡ get_or ys s x → slice_get xs s ≡ Some x
+read-at {A} xs ys s x same less is = ap (λ (zs : List A). slice_get zs s) (sym same) ∙ slice_get_read ys (length ys) s x refl less is
+
+-- what it says of a stop
+pub running-by : (stopped : List (Option StepRefusal)) (s : ℕ) (stop : Option StepRefusal) (runs : Bool) → slice_get stopped s ≡ Some stop → is_some stop ≡ not runs → runs ≡ true → slice_get stopped s ≡ Some None
+running-by stopped s None runs at tells yes = at
+running-by stopped s (Some refusal) runs at tells yes = absurd (true≢false (tells ∙ ap not yes))
+
+pub stopped-by : (stopped : List (Option StepRefusal)) (s : ℕ) (stop : Option StepRefusal) (runs : Bool) → slice_get stopped s ≡ Some stop → is_some stop ≡ not runs → runs ≡ false → IsStopAt stopped s
+stopped-by stopped s None runs at tells no = absurd (true≢false (sym (tells ∙ ap not no)))
+stopped-by stopped s (Some refusal) runs at tells no = (refusal, at)
+
+-- ---- how many groups are applied
+
+-- of one stream more
+pub applied-more : (streams : List State) (s : ℕ) (at : Standing) (counts longer : List ℕ) → IsSomeAnd (slice_get streams s) (λ state. at ≡ standing_of state) → longer ≡ counts ++ at.applied ∷ []
+    → counts ≡ map (λ (state : State). state.applied) (take s streams) → longer ≡ map (λ (state : State). state.applied) (take (s + 1) streams)
+applied-more streams s at counts longer here is so_far = by (slice_get streams s) refl here
+  where
+    by : (o : Option State) → slice_get streams s ≡ o → IsSomeAnd o (λ state. at ≡ standing_of state) → longer ≡ map (λ (state : State). state.applied) (take (s + 1) streams)
+    by None e h = absurd h
+    by (Some state) e h =
+        let more : take (s + 1) streams ≡ take s streams ++ state ∷ []
+        = take_more streams s state (slice_get_within streams s state e) ∙ ap (λ (x : State). take s streams ++ x ∷ []) (get_or_from_slice_get streams s state state e) in
+        is
+        ∙ ap (λ (xs : List ℕ). xs ++ at.applied ∷ []) so_far
+        ∙ ap (λ (n : ℕ). map (λ (x : State). x.applied) (take s streams) ++ n ∷ []) (ap (λ (x : Standing). x.applied) h)
+        ∙ sym (map-append (λ (x : State). x.applied) (take s streams) (state ∷ []))
+        ∙ ap (map (λ (x : State). x.applied)) (sym more)
 
 -- ---- behind a step
 
@@ -29,6 +63,15 @@ step-stops feeds s step old new runs h =
 
 pub step-runs : (feeds : List FeedValue) (s : ℕ) (step : Step) (old new : Gone) → Runs old s → IsStepOn feeds s step true old new → Runs new s
 step-runs feeds s step old new runs h = ap (λ (xs : List (Option StepRefusal)). slice_get xs s) h.1 ∙ runs
+
+-- where a step was made a stream that ran still does, and where it wasn't it is stopped
+pub runs-on : (feeds : List FeedValue) (s : ℕ) (step : Step) (made : Bool) (old new : Gone) → Runs old s → IsStepOn feeds s step made old new → made ≡ true → Runs new s
+runs-on feeds s step true old new runs h e = step-runs feeds s step old new runs h
+runs-on feeds s step false old new runs h e = absurd (true≢false (sym e))
+
+pub stops-on : (feeds : List FeedValue) (s : ℕ) (step : Step) (made : Bool) (old new : Gone) → Runs old s → IsStepOn feeds s step made old new → made ≡ false → IsStoppedIn new s
+stops-on feeds s step true old new runs h e = absurd (true≢false e)
+stops-on feeds s step false old new runs h e = step-stops feeds s step old new runs h
 
 pub offer-none : (feeds : List FeedValue) (s n : ℕ) (made : Bool) (old new : Gone) → IsStepOn feeds s (Offer n) made old new → AppliesNone s old.board new.board
 offer-none feeds s n true old new h = λ before after stood stands. offer-applies_none feeds old.board new.board s n (Ok h.0.0) h.0.1 s before after stood stands
@@ -88,6 +131,21 @@ module _ (fed : Fed) (most : ℕ) (gone : Gone) (on : IsOnRound fed most gone) w
   pub state-of : (s : ℕ) → s < length fed.feeds → (state : State) × (slice_get gone.board.streams s ≡ Some state)
   state-of s less = place_of gone.board.streams s (let count = streams-count in omega (arith, less, count))
 
+  -- a stream that has a feed is there
+  pub not-none : (s : ℕ) → s < length fed.feeds → slice_get gone.board.streams s ≡ None → ⊥
+  not-none s less none = let one : (state : State) × (slice_get gone.board.streams s ≡ Some state) = state-of s less in none-some one.0 (sym none ∙ one.1)
+
+  -- its marks are those that it had at first
+  pub marks-begun : (s : ℕ) (marks : Marks) → s < length fed.feeds → IsSomeAnd (slice_get gone.board.streams s) (λ state. marks ≡ state.marks)
+      → option_map (λ (state : State). state.marks) (slice_get fed.board.streams s) ≡ Some marks
+  marks-begun s marks less stands =
+      let now : (state : State) × (slice_get gone.board.streams s ≡ Some state) = state-of s less in
+      let before : (state : State) × (slice_get fed.board.streams s ≡ Some state) = place_of fed.board.streams s (let count = on.begun.count in omega (arith, less, count)) in
+      let one : HasGoneOn before.0 now.0 = gone-on.each s before.0 now.0 before.1 now.1 in
+      let is : marks ≡ now.0.marks = subst (λ (o : Option State). IsSomeAnd o (λ state. marks ≡ state.marks)) now.1 stands in
+      ap (option_map (λ (state : State). state.marks)) before.1 ∙ ap (λ (m : Marks). Some m) (sym (is ∙ one.marks))
+
+  -- as many groups as are read are few
   pub read-short : ReadListsAreShort → (s : ℕ) (at : Standing) → IsLawful gone.board → s < length fed.feeds → IsSomeAnd (slice_get gone.board.streams s) (λ state. at ≡ standing_of state) → at.read < 2 ^ 31
   read-short short s at lawful less stands =
       let one : (state : State) × (slice_get gone.board.streams s ≡ Some state) = state-of s less in
@@ -102,6 +160,13 @@ number-of board s at number P same stands = by (slice_get board.streams s) stand
     by : (o : Option State) → IsSomeAnd o (λ state. at ≡ standing_of state) → IfSome o (λ state. number at ≡ P state)
     by None h = tt
     by (Some state) h = ap number h ∙ same state
+
+-- as the board is seen
+pub number-seen : (inside seen : Gone) (s n : ℕ) (at : Standing) (number : Standing → ℕ) (P : State → ℕ) → inside ≡ seen → ((state : State) → number (standing_of state) ≡ P state) → n ≡ number at
+    → IsSomeAnd (slice_get inside.board.streams s) (λ state. at ≡ standing_of state) → IfSome (slice_get seen.board.streams s) (λ state. n ≡ P state)
+number-seen inside seen s n at number P view same is stands =
+    subst (λ (x : Gone). IfSome (slice_get x.board.streams s) (λ state. n ≡ P state)) view
+    (subst (λ (m : ℕ). IfSome (slice_get inside.board.streams s) (λ state. m ≡ P state)) (sym is) (number-of inside.board s at number P same stands))
 
 -- ---- from one step to the next
 
@@ -127,6 +192,15 @@ none-then-one fed most old middle new on still again s none one before after sto
     let same : x.0.applied ≡ before.applied = none before x.0 stood x.1 in
     let more : after.applied ≡ suc x.0.applied = one x.0 after x.1 there in
     omega (arith, same, more)
+
+-- a stream whose next group was read, and then was applied or wasn't
+module _ (fed : Fed) (most : ℕ) (old middle new : Gone) (on : IsOnRound fed most old) (still : IsOnRound fed most middle) (again : IsOnRound fed most new) (s : ℕ) (none : AppliesNone s old.board middle.board) (runs : Runs middle s) where
+  pub went-on : (made : Bool) → IsStepOn fed.feeds s Advance made middle new → made ≡ true → AppliesOne s old.board new.board
+  went-on true h e = none-then-one fed most old middle new on still again s none (advance-one fed.feeds s middle new h)
+  went-on false h e = absurd (true≢false (sym e))
+
+  pub through-on : (made : Bool) → IsStepOn fed.feeds s Advance made middle new → made ≡ false → IsThrough fed most new s
+  through-on made h e = inl (stops-on fed.feeds s Advance made middle new runs h e)
 
 -- ---- the next group
 

@@ -12,7 +12,7 @@ ghost use Rattle.board_laws.specs.FedBoards.{IsFedBoard};
 ghost use Rattle.apply_core.specs.Putting.{DoAsStep};
 ghost use Rattle.change_laws.specs.Since.{GoesOnBy};
 ghost use Rattle.worker_rounds.specs.Rounds.{HasAppliedAll, OfStream};
-ghost use Rattle.worker_rounds.specs.Private.OnRound.{AnswersBy, AppliesNone, AppliesOne, AreAnswersBy, AreAsideOf, AreThrough, IsOnRound, IsReady, IsStepOn, IsThrough, MayApply, IsStoppedIn, MayTakeIn, Runs, applied_on};
+ghost use Rattle.worker_rounds.specs.Private.OnRound.{AnswersBy, AppliesNone, AppliesOne, AreAnswersBy, AreAsideOf, AreThrough, IsOnRound, IsReady, IsStepOn, IsStopAt, IsStoppedIn, IsThrough, MayApply, MayTakeIn, Runs, applied_on};
 
 use crate::began::Began;
 use crate::ready::Ready;
@@ -57,6 +57,31 @@ fn put_stop(stopped: &mut Vec<Option<StepRefusal>>, s: u8, refusal: StepRefusal)
     let _ = replace(place, Some(refusal));
 }
 
+/// Whether nothing stopped stream `s`.
+fn is_running(stopped: &[Option<StepRefusal>], s: u8) -> bool
+    requires { s < length stopped.now }
+    ensures yes { IsTrue result → slice_get stopped.now s ≡ Some None }
+    ensures no { result ≡ false → IsStopAt stopped.now s }
+{
+    stopped[s as usize].is_none()
+}
+
+/// How many groups stream `s` had applied at first.
+fn first_of(first: &[u32], s: u8) -> u32
+    requires { s < length first.now }
+    ensures { slice_get first.now s ≡ Some result }
+{
+    first[s as usize]
+}
+
+/// Whether a stream that has applied so many groups has applied fewer than `most` behind the first ones.
+fn is_short(applied: u32, first: u32, most: u32) -> bool
+    ensures yes { IsTrue result → applied < first + most }
+    ensures no { result ≡ false → first + most ≤ applied }
+{
+    u64::from(applied) < u64::from(first) + u64::from(most)
+}
+
 /// How many groups a feed has: fewer than 2^31.
 fn count_of(feed: &Feed<'_>) -> u32
     ensures { result ≡ length feed.now.groups }
@@ -93,6 +118,27 @@ fn answer_of(
         Some(refusal) => Err(refusal),
         None => Ok(has_applied_all(board, feed, s)),
     }
+}
+
+/// What is answered of each stream, in a vector with room for that.
+fn answers_of(
+    board: &Board<'_>,
+    feeds: &[Feed<'_>],
+    stopped: Vec<Option<StepRefusal>>,
+    mut answers: Vec<Result<bool, StepRefusal>>,
+) -> Vec<Result<bool, StepRefusal>>
+    requires streams { length board.now.streams ≡ length feeds.now }
+    requires count { length stopped.items ≡ length feeds.now }
+    requires few { length feeds.now ≤ 64 }
+    requires room { (answers.items ≡ []) × (vec_len answers ≡ 0) × (length feeds.now ≤ vec_capacity answers) }
+    ensures { AreAnswersBy feeds.now board.now stopped.items result.items }
+{
+    let mut s = 0;
+    for stop in stopped {
+        answers.push_reserved(answer_of(board, &feeds[s as usize], s, stop));
+        s += 1;
+    }
+    answers
 }
 
 impl<'h, J: Began> Going<'h, J> {
@@ -189,7 +235,7 @@ impl<'h, J: Began> Going<'h, J> {
         ensures yes { IsTrue result → Runs self.now s }
         ensures no { result ≡ false → IsStoppedIn self.now s }
     {
-        self.stopped[s as usize].is_none()
+        is_running(&self.stopped, s)
     }
 
     /// Whether stream `s` has applied fewer than so many groups more.
@@ -199,22 +245,19 @@ impl<'h, J: Began> Going<'h, J> {
         ensures yes { IsTrue result → MayApply J.most J.fed.board self.now.board s }
         ensures no { result ≡ false → OfStream (λ feed before after. after.applied ≡ before.applied + J.most) J.fed.feeds J.fed.board self.now.board s }
     {
-        self.is_on_round();
         let Ok(at) = self.board.state(s) else {
             unreachable!()
         };
-        let first = self.first[s as usize];
-        u64::from(at.applied()) < u64::from(first) + u64::from(most)
+        is_short(at.applied(), first_of(&self.first, s), most)
     }
 
-    /// Whether stream `s` has groups of its feed left to apply.
-    fn has_more(&self, feeds: &[Feed<'h>], s: u8) -> bool
+    /// Whether stream `s` has applied all groups of its feed.
+    fn has_all(&self, feeds: &[Feed<'h>], s: u8) -> bool
         requires feeds { feeds.now ≡ J.fed.feeds }
         requires there { s < length feeds.now }
-        ensures { result ≡ false → OfStream (λ feed before after. HasAppliedAll feed after) J.fed.feeds J.fed.board self.now.board s }
+        ensures { IsTrue result → OfStream (λ feed before after. HasAppliedAll feed after) J.fed.feeds J.fed.board self.now.board s }
     {
-        self.is_on_round();
-        !has_applied_all(&self.board, &feeds[s as usize], s)
+        has_applied_all(&self.board, &feeds[s as usize], s)
     }
 
     /// The number of the last group that stream `s` has read, and that of the last one that it has applied.
@@ -226,7 +269,6 @@ impl<'h, J: Began> Going<'h, J> {
     {
         steps_keep_boards_lawful();
         self.board.is_lawful();
-        self.is_on_round();
         let Ok(at) = self.board.state(s) else {
             unreachable!()
         };
@@ -270,7 +312,7 @@ impl<'h, J: Began> Going<'h, J> {
         if !self.may_apply(s, most) {
             return false;
         }
-        if !self.has_more(feeds, s) {
+        if self.has_all(feeds, s) {
             return false;
         }
         if !self.read_next(alloc, feeds, s) {
@@ -288,7 +330,13 @@ impl<'h, J: Began> Going<'h, J> {
     {
         self.is_on_round();
         let (read, applied) = self.numbers(s);
-        if applied != read || !self.runs(s) || !self.may_apply(s, most) {
+        if applied != read {
+            return None;
+        }
+        if !self.runs(s) {
+            return None;
+        }
+        if !self.may_apply(s, most) {
             return None;
         }
         Some(read + 1)
@@ -321,6 +369,30 @@ impl<'h, J: Began> Going<'h, J> {
         self.advance(alloc, s, puts, freed)
     }
 
+    /// The groups that stand ready are read by stream `s` and applied, up to the first that it can't take in: whether it took
+    /// one in.
+    fn take_in_all(
+        &mut self,
+        alloc: Global,
+        s: u8,
+        most: u32,
+        readies: Vec<Ready<'h>>,
+        freed: &mut Vec<Freed<Key, RowBuf>>,
+    ) -> bool
+        requires most { most ≡ J.most }
+        requires there { s < length J.fed.feeds }
+        requires readies { AllByRecursion (IsReady J.fed s) readies.items }
+    {
+        let mut taken = false;
+        for ready in readies {
+            if !self.take_in(alloc, s, most, ready, freed) {
+                return taken;
+            }
+            taken = true;
+        }
+        taken
+    }
+
     /// A turn of stream `s`: it takes in the groups that stand ready, or goes on without them where it can't take in the
     /// first. The answer is the number of the group that it may apply next, or none where it has gone as far as it can.
     pub(crate) fn turn(
@@ -337,15 +409,10 @@ impl<'h, J: Began> Going<'h, J> {
         requires there { s < length feeds.now }
         requires readies { AllByRecursion (IsReady J.fed s) readies.items }
     {
-        let mut taken = false;
-        for ready in readies {
-            if !self.take_in(alloc, s, most, ready, freed) {
-                break;
+        if !self.take_in_all(alloc, s, most, readies, freed) {
+            if !self.go_on(alloc, feeds, s, most) {
+                return None;
             }
-            taken = true;
-        }
-        if !taken && !self.go_on(alloc, feeds, s, most) {
-            return None;
         }
         if !self.runs(s) {
             return None;
@@ -360,7 +427,10 @@ impl<'h, J: Began> Going<'h, J> {
         requires { s < length J.fed.feeds }
         ensures { IfOk result (λ begun. option_map (λ state. state.marks) (slice_get J.fed.board.streams s) ≡ Some begun.1) }
     {
-        let (Ok(at), Ok(marks)) = (self.board.state(s), self.board.marks(s)) else {
+        let Ok(at) = self.board.state(s) else {
+            unreachable!()
+        };
+        let Ok(marks) = self.board.marks(s) else {
             unreachable!()
         };
         let marks = marks.try_clone(alloc)?;
@@ -399,7 +469,7 @@ impl<'h, J: Began> Going<'h, J> {
     pub(crate) fn into_answers(
         self,
         feeds: &[Feed<'h>],
-        mut answers: Vec<Result<bool, StepRefusal>>,
+        answers: Vec<Result<bool, StepRefusal>>,
     ) -> (Board<'h>, Vec<Result<bool, StepRefusal>>)
         requires feeds { feeds.now ≡ J.fed.feeds }
         requires room { (answers.items ≡ []) × (vec_len answers ≡ 0) × (length feeds.now ≤ vec_capacity answers) }
@@ -407,12 +477,9 @@ impl<'h, J: Began> Going<'h, J> {
         ensures answers { AreAnswersBy J.fed.feeds self.entry.board self.entry.stopped result.1.items }
         ensures round { IsOnRound J.fed J.most self.entry }
     {
+        self.is_on_round();
         let Going { board, stopped, .. } = self;
-        let mut s = 0;
-        for stop in stopped {
-            answers.push_reserved(answer_of(&board, &feeds[s as usize], s, stop));
-            s += 1;
-        }
+        let answers = answers_of(&board, feeds, stopped, answers);
         (board, answers)
     }
 }

@@ -178,6 +178,38 @@ fn round_of<'h, J: Began + Send + Sync, R: Threads + Wait + Sync>(
     going.into_answers(feeds, answers)
 }
 
+/// A round of a board, for which there is room.
+fn round_with<'h, R: Threads + Wait + Sync>(
+    rt: &R,
+    alloc: Global,
+    fed: &mut FedBoard<'h>,
+    most: u32,
+    room: Room<'h>,
+) -> Vec<Result<bool, StepRefusal>>
+    requires count { length room.stopped.items ≡ length fed.old.feeds }
+    requires none { AllByRecursion (λ stop. stop ≡ None) room.stopped.items }
+    requires first { room.first.items ≡ applied_on fed.old.board }
+    requires answers { (room.answers.items ≡ []) × (vec_len room.answers ≡ 0) × (length fed.old.feeds ≤ vec_capacity room.answers) }
+    ensures moved { HasMoved fed.old.feeds fed.old.board fed.new.board }
+    ensures answers { AreAnswers most fed.old.feeds fed.old.board result.items fed.new.board }
+    ensures up_to { ApplyUpTo most fed.old.board fed.new.board }
+    ensures feeds { fed.new.feeds ≡ fed.old.feeds }
+{
+    let Room {
+        mut other,
+        stopped,
+        first,
+        answers,
+    } = room;
+    swap(fed, &mut other);
+    let (board, feeds) = other.into_parts();
+    let (board, answers) = round_of::<Brand, R>(
+        rt, alloc, board, &feeds, most, stopped, first, answers,
+    );
+    let _ = replace(fed, FedBoard::from_parts(board, feeds));
+    answers
+}
+
 /// A round of a board with its feeds: each stream reads and applies groups of its feed, up to `most` of them, in a thread
 /// beside others; there are as many threads as processors at most, and each takes one stream after another. A stream that
 /// is refused stops alone: the others go on, and at the next round it tries again.
@@ -205,17 +237,8 @@ pub fn run_round<'h, R: Threads + Wait + Sync>(
 {
     fed_boards_show_all();
     fed.is_fed();
-    let Room {
-        mut other,
-        stopped,
-        first,
-        answers,
-    } = Room::of(alloc, fed)?;
-    swap(fed, &mut other);
-    let (board, feeds) = other.into_parts();
-    let (board, answers) = round_of::<Brand, R>(
-        rt, alloc, board, &feeds, most, stopped, first, answers,
-    );
-    let _ = replace(fed, FedBoard::from_parts(board, feeds));
+    let room = Room::of(alloc, fed)?;
+    let answers = round_with(rt, alloc, fed, most, room);
+    fed.is_fed();
     Ok(answers)
 }

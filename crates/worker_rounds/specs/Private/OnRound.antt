@@ -46,9 +46,13 @@ pub record IsOnRound (fed : Fed) (most : ℕ) (gone : Gone) : Type 0 where
 abbrev pub Runs : Gone → ℕ → Type 0
 Runs gone s = slice_get gone.stopped s ≡ Some None
 
+-- a refusal stands at this place
+abbrev pub IsStopAt : List (Option StepRefusal) → ℕ → Type 0
+IsStopAt stopped s = (refusal : StepRefusal) × (slice_get stopped s ≡ Some (Some refusal))
+
 -- it is
 abbrev pub IsStoppedIn : Gone → ℕ → Type 0
-IsStoppedIn gone s = (refusal : StepRefusal) × (slice_get gone.stopped s ≡ Some (Some refusal))
+IsStoppedIn gone s = IsStopAt gone.stopped s
 
 -- it has applied fewer than so many groups more
 abbrev pub MayApply : ℕ → Meaning → Meaning → ℕ → Type 0

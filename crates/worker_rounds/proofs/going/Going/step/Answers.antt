@@ -20,3 +20,11 @@ returns-in-Ok-clause-round g c = invariant_of-self g c
 
 pub returns-in-Err-clause-round : goal.returns-in-Err-clause-round
 returns-in-Err-clause-round g c = invariant_of-self-in-Err g c
+
+pub returns-in-Ok-clause-step : goal.returns-in-Ok-clause-step
+returns-in-Ok-clause-step g c =
+    (stepped-ok g.J.Began.fed g.J.Began.most (record { board = c.self.inside.board; stopped = c.self.inside.stopped.items; first = c.self.inside.first.items }) c.args.self.now (record { board = c.take_step.new.self; stopped = c.self.inside.stopped.items; first = c.self.inside.first.items }) c.args.s c.args.step c.args.feeds.now c.take_step.result c.in-Ok.field-0 c.requires.feeds c.in-Ok.is c.take_step.ensures c.self.view_is c.self.invariant c.requires.onwards c.requires.runs c.requires.room refl refl).1
+
+pub returns-in-Err-clause-step : goal.returns-in-Err-clause-step
+returns-in-Err-clause-step g c =
+    (stepped-err g.J.Began.fed g.J.Began.most (record { board = c.self.inside.board; stopped = c.self.inside.stopped.items; first = c.self.inside.first.items }) c.args.self.now (record { board = c.take_step.new.self; stopped = c.put_stop.new.stopped.items; first = c.self.inside.first.items }) c.args.s c.args.step c.args.feeds.now c.take_step.result c.in-Err.refusal c.requires.feeds c.in-Err.is c.take_step.ensures c.self.view_is c.self.invariant c.requires.onwards c.requires.runs c.requires.room refl c.put_stop.ensures).1

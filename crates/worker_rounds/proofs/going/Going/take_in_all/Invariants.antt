@@ -1,7 +1,7 @@
 use Rattle.std.specs.List.{AllByRecursion}
 use Rattle.std.specs.Vec.Iter.{into_iter_items}
 use Rattle.worker_rounds.specs.Private.OnRound.{IsReady}
-use Rattle.worker_rounds.proofs.going.Going.turn.Given as goal
+use Rattle.worker_rounds.proofs.going.Going.take_in_all.Given as goal
 
 -- the groups to come stand ready
 abbrev pub invariant-loop-ready : goal.invariant-loop-ready

@@ -1,4 +1,4 @@
-use Rattle.worker_rounds.proofs.round.run_round.Given as goal
+use Rattle.worker_rounds.proofs.round.round_with.Given as goal
 
 -- the round begins with this board and its feeds
 abbrev pub ghosts-round_of : goal.ghosts-round_of
