@@ -499,10 +499,11 @@ fn of_logs(error: LogsError) -> BehindError
 /// feed doesn't have; a feed without bytes has none. A transaction's position is that of the logs and the feed's together.
 ///
 /// Refused, in this order: the feed's faults, as `read_groups` of source_feed has them; a feed with bytes and no group
-/// (`NoGroup`); columns in it that aren't the source's (`FieldsDiffer`); then the first fault of the logs, among them
-/// `Elsewhere` (159) where they begin behind the feed's position, `GoesBack` (158) where it has some numbers of a transaction
-/// and not all, and `NotMade` (159) where it has a transaction, and no columns of a table that has rows there. An error may
-/// also be want of memory. Takes memory for the feed's groups, for what is told, and for one transaction at a time.
+/// (`NoGroup`); what is wrong where the first log begins, and `Elsewhere` (159) where that is behind the feed's position;
+/// columns in the feed that aren't the source's (`FieldsDiffer`); then the first other fault of the logs, among them `GoesBack`
+/// (158) where the feed has some numbers of a transaction and not all, and `NotMade` (159) where it has a transaction, and no
+/// columns of a table that has rows there. An error may also be want of memory. Takes memory for the feed's groups, for what is
+/// told, and for one transaction at a time.
 pub fn transcribe_behind(
     alloc: Global,
     source: FeedSource<'_, '_>,

@@ -202,8 +202,8 @@ fn feed_under(
 }
 
 /// The feed of the logs, for the stream of the shard. The faults are found in this order: those of the workflow; 115 where it
-/// has no stream of the shard; 148 where a table's name isn't plain; those of the feed behind which to go on; the first of the
-/// logs. Any other error is want of memory.
+/// has no stream of the shard; 148 where a table's name isn't plain; those of the feed behind which to go on, of which 85 comes
+/// behind a fault where the first log begins; the first of the logs. Any other error is want of memory.
 pub fn transcribed(
     alloc: Global,
     inputs: &TranscribeInputs<'_, '_>,
