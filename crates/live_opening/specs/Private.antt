@@ -1,2 +1,0 @@
--- What serves the crate's own code alone.
-pub mod Starting
