@@ -1,11 +1,14 @@
 -- Feeds that grow by what has come, one after another.
-use Rattle.std.proofs.Common.{◌≡◌, ℕ, zero, suc, ◌+◌, ◌≤◌, List, [], ◌∷◌, ◌++◌, length, take, drop, append_assoc, length-append, Some, slice_get, set, refl, sym, ap, subst, ◌∙◌, arith}
+use Rattle.std.proofs.Common.{◌≡◌, ℕ, zero, suc, ◌+◌, ◌<◌, Bool, true, false, Option, ◌≤◌, List, [], ◌∷◌, ◌++◌, length, take, drop, append_assoc, length-append, None, Some, slice_get, set, refl, sym, ap, subst, ◌∙◌, arith}
 use Rattle.std.proofs.lemmas.List.{take-append-drop}
 use Rattle.std.proofs.lemmas.Option.{same_Some}
 use Rattle.source_feed.specs.Planned.{FeedValue, PlannedGroupValue}
 use Rattle.apply_core.specs.Growing.{IsLonger}
 use Rattle.live_core.specs.Live.{LiveValue, TakesPiece}
-use Rattle.live_session.specs.Growths.{AreFollowed, HaveCome, IsThereLonger, total}
+use Rattle.live_session.specs.Growths.{AreFollowed, HasGrown, HaveCome, IsAsked, IsNoted, IsThereLonger, total}
+use Rattle.live_session.specs.declared.seat.Seat.{Seat}
+use Rattle.live_session.specs.declared.seat.Stopped.{Stopped}
+use Rattle.live_session.specs.declared.seat.Stopped.TheVariants.{File, Bytes}
 
 none-behind : {A : Type 0} (xs : List A) → xs ++ [] ≡ xs
 none-behind [] = refl
@@ -113,3 +116,27 @@ come-one s piece taken old new took board told = record {
   bytes = λ t bytes known. subst (λ (all : List (List ℕ)). AreFollowed bytes all t) (sym took.grown) (followed-set old.bytes s t took.bytes (take taken piece) bytes took.known known);
   feeds = λ t feed there. subst (λ (all : List FeedValue). IsThereLonger feed all t) (sym took.feeds) (longer-set old.fed.feeds s t took.before took.after feed took.longer took.there there);
 }
+
+-- ---- what there is
+
+-- there is an item at each place within a list
+pub is_there : {A : Type 0} (X : Type 0) (xs : List A) (s : ℕ) → slice_get xs s ≡ None → s < length xs → X
+is_there X [] s none within = absurd (omega (arith, within))
+is_there X (x ∷ xs) zero none within = cc
+is_there X (x ∷ xs) (suc s) none within = is_there X xs s none (omega (arith, within))
+
+-- ---- what is noted
+
+-- what is noted of a piece is noted of a feed that was asked
+pub asked-by : (s : ℕ) (piece : List ℕ) (taken : ℕ) (stopped : Option Stopped) (old new : LiveValue) → IsNoted s piece taken stopped old new → IsAsked s stopped old new
+asked-by s piece taken None old new noted = tt
+asked-by s piece taken (Some (Bytes fault)) old new noted = (noted.0, (piece, noted.1))
+asked-by s piece taken (Some (File fault)) old new noted = absurd noted
+
+pub grown-closed : (closed : Bool) (s : ℕ) (before after : Seat) (old new : LiveValue) → closed ≡ true → after ≡ before → new ≡ old → HasGrown closed s before after old new
+grown-closed true s before after old new is seat live = (seat, live)
+grown-closed false s before after old new is seat live = cc
+
+pub grown-asked : (closed : Bool) (s : ℕ) (before after : Seat) (old new : LiveValue) → closed ≡ false → IsAsked s after.stopped old new → HasGrown closed s before after old new
+grown-asked true s before after old new is asked = cc
+grown-asked false s before after old new is asked = asked
