@@ -1,5 +1,5 @@
 -- What each request is answered, and what it leaves (this profile).
-use Rattle.std.specs.Prelude.{◌≡◌, ◌⊎◌, ℕ, List, [], length, Bool, Option, None, Some, MatchOption, IsSomeAnd, Result, Ok, Err, slice_get}
+use Rattle.std.specs.Prelude.{◌≡◌, ◌⊎◌, ℕ, List, [], length, map, Bool, Option, None, Some, MatchOption, IsSomeAnd, Result, Ok, Err, slice_get}
 use Rattle.filter_rule.specs.PlanValue.{PlanValue, table_of_name}
 use Rattle.pk_copy.specs.KeyOrder.{key_cmp}
 use Rattle.pk_copy.specs.KeyValue.{KeyValue}
@@ -17,7 +17,7 @@ use Rattle.live_requests.specs.Named.{IsKeyText}
 use Rattle.live_requests.specs.Requests as asked
 use Rattle.live_requests.specs.Requests.{Asked}
 use Rattle.live_session.specs.Counts.{AreAllCounts}
-use Rattle.live_session.specs.Growths.{HaveCome}
+use Rattle.live_session.specs.Growths.{HaveCome, HaveGrown}
 use Rattle.live_session.specs.Pages.{page_of}
 use Rattle.live_session.specs.Sessions.{SessionValue, AreTold, first_plan}
 use Rattle.live_session.specs.Stops.{known_refusal, number_of_save}
@@ -39,6 +39,13 @@ pub record AreNoted (answers : List (Result Bool StepRefusal)) (seats : List Sea
   pub count : length seats ≡ length answers
   pub each : (s : ℕ) (answer : Result Bool StepRefusal) (seat : Seat) → slice_get answers s ≡ Some answer → slice_get seats s ≡ Some seat → seat.step ≡ noted answer
 
+-- nothing but the last steps has changed in the seats
+abbrev pub unstepped : Seat → Seat
+unstepped seat = record seat { step = None }
+
+abbrev pub AreStepped : List Seat → List Seat → Type 0
+AreStepped befores afters = map unstepped afters ≡ map unstepped befores
+
 -- The feeds have grown by so many bytes, and then the streams have taken a list of steps that read groups and apply them.
 -- Nothing was told.
 pub record HasGone (bytes : ℕ) (old new : LiveValue) : Type 0 where
@@ -49,11 +56,12 @@ pub record HasGone (bytes : ℕ) (old new : LiveValue) : Type 0 where
   pub told : new.told ≡ between.told
   pub moved : HasMoved between.fed.feeds between.fed.board new.fed.board
 
--- The streams have gone on, each up to its feed's end or a refusal, which is noted, or as far as was asked. Told are how many
+-- The feeds have grown, each by what its seat says, and the streams have gone on, each up to its feed's end or a refusal, which is noted, or as far as was asked. Told are how many
 -- bytes and changes there are, and where the streams stand.
 pub record IsMore (old new : SessionValue) (text : List ℕ) : Type 0 where
   pub bytes : ℕ
   pub gone : HasGone bytes old.live new.live
+  pub grown : HaveGrown old.seats new.seats old.live new.live
   pub answers : List (Result Bool StepRefusal)
   pub ended : HaveEndedAs answers new.live.fed.feeds new.live.fed.board
   pub noted : AreNoted answers new.seats

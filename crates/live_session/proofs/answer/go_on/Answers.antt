@@ -7,6 +7,7 @@ use Rattle.live_json.specs.declared.streams.StreamTold.{StreamTold}
 use Rattle.live_session.specs.Answered.{HasGone}
 use Rattle.live_session.specs.Growths.{HaveCome}
 use Rattle.live_session.specs.Sessions.{AreTold, SessionValue}
+use Rattle.live_session.proofs.GrowthLaws.{grown-stepped}
 use Rattle.live_session.proofs.answer.go_on.Goals as goal
 
 -- what has come, and what the streams have made of it
@@ -35,9 +36,10 @@ returns-clause-answer g c = (
   record {
     bytes = c.growth-bytes.result;
     gone = gone-on c.growth-bytes.ensures.come c.in_ok-answers.ensures.feeds c.in_ok-answers.ensures.bytes c.in_ok-answers.ensures.told c.in_ok-answers.ensures.moved;
+    grown = grown-stepped c.args.seats.now c.growth-bytes.new.seats c.note.new.seats c.args.live.now c.growth-bytes.new.live _ c.growth-bytes.ensures.grown c.note.ensures.stepped c.in_ok-answers.ensures.bytes c.in_ok-answers.ensures.feeds;
     answers = c.in_ok-answers.answers.items;
     ended = c.in_ok-answers.ensures.ended;
-    noted = c.note.ensures;
+    noted = c.note.ensures.noted;
     changes = c.in_ok-changes.changes;
     counted = c.in_ok-changes.ensures.counted;
     streams = map stream_value c.deref.result.now;
