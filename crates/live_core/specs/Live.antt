@@ -1,11 +1,13 @@
 -- A board that goes on with its feeds, and what was told of it (this profile).
-use Rattle.std.specs.Prelude.{◌≡◌, ◌↔◌, ◌≤◌, ◌++◌, ℕ, Bool, true, List, [], Option, None, Some, Result, Ok, IfSome, length, map, take, drop, slice_get, slice_set}
+use Rattle.std.specs.Prelude.{◌≡◌, ◌==◌, ◌↔◌, ◌+◌, ◌≤◌, ◌++◌, ℕ, Bool, true, false, List, [], Option, None, Some, Result, Ok, Err, IfSome, length, map, take, drop, slice_get, slice_set, if◌then◌else◌}
 use Rattle.std.specs.List.{list_any}
 use Rattle.std.specs.Option.{option_map_or}
 use Rattle.std.specs.Ordering.{eq_by_cmp}
 use Rattle.pk_copy.specs.KeyOrder.{key_cmp}
 use Rattle.pk_copy.specs.KeyValue.{KeyValue}
 use Rattle.stream_core.specs.declared.phase.Phase.TheVariants.{Running}
+use Rattle.stream_core.specs.declared.step.Step.{Step}
+use Rattle.stream_core.specs.declared.step.Step.TheVariants.{Offer, Advance}
 use Rattle.stream_core.specs.Standing.{phase_of}
 use Rattle.source_feed.specs.declared.fault.FeedFault.{FeedFault}
 use Rattle.source_feed.specs.FaultNumber.{meant_of}
@@ -15,6 +17,7 @@ use Rattle.board_laws.specs.declared.step_refusal.StepRefusal.{StepRefusal}
 use Rattle.board_laws.specs.FedBoards.{Fed, IsFedBoard}
 use Rattle.board_laws.specs.Lawful.{standing_of, IsLawful}
 use Rattle.board_laws.specs.Meaning.{State, TargetRows, Meaning}
+use Rattle.board_laws.specs.Schedule.{IsReply}
 use Rattle.board_laws.specs.Sources.{ShowAll}
 use Rattle.apply_core.specs.declared.grow_refusal.GrowRefusal.{GrowRefusal}
 use Rattle.apply_core.specs.declared.grow_refusal.GrowRefusal.TheVariants.{NoStream, Piece}
@@ -23,7 +26,7 @@ use Rattle.apply_core.specs.Growing.{IsLonger}
 use Rattle.change_laws.specs.declared.changed_keys.ChangedKeys.{ChangedKeys}
 use Rattle.change_laws.specs.declared.changed_keys.ChangedKeys.TheVariants.{All, Touched}
 use Rattle.change_laws.specs.Changes.{LeadOn, changes_in}
-use Rattle.change_laws.specs.Since.{HaveGoneOn, IsTouchedSince}
+use Rattle.change_laws.specs.Since.{HaveGoneOn, IsTouchedSince, HasMoved}
 use Rattle.live_core.specs.Source.{IsOfSource}
 use Rattle.live_core.specs.declared.source.Source.{Source}
 
@@ -126,6 +129,53 @@ HasEndedAs feeds board s answer = Unit {0}
 pub record HaveEndedAs (answers : List (Result Bool StepRefusal)) (feeds : List FeedValue) (board : Meaning) : Type 0 where
   pub count : length answers ≡ length feeds
   pub each : (s : ℕ) → HasEndedAs feeds board s (slice_get answers s)
+
+-- ---- how far a move goes
+
+-- how many groups stream s of a board has applied; 0 where there is no such stream
+abbrev pub applied_by : Meaning → ℕ → ℕ
+applied_by board s = option_map_or (λ (state : State). state.applied) (slice_get board.streams s) 0
+
+-- a stream that answers so, which hasn't come to its feed's end, has applied just so many groups more
+abbrev pub HasAppliedAs : ℕ → Meaning → Meaning → ℕ → Option (Result Bool StepRefusal) → Type 0
+HasAppliedAs most old new s (Some (Ok false)) = applied_by new s ≡ applied_by old s + most
+HasAppliedAs most old new s answer = Unit {0}
+
+-- each stream has applied up to so many groups more, and just so many where it hasn't come to its feed's end
+pub record AreUpTo (most : ℕ) (answers : List (Result Bool StepRefusal)) (old new : Meaning) : Type 0 where
+  pub up_to : (s : ℕ) → applied_by new s ≤ applied_by old s + most
+  pub just : (s : ℕ) → HasAppliedAs most old new s (slice_get answers s)
+
+-- ---- why a move is refused
+
+-- a stream's next step where all tables are copied: a group that it has read is applied, and where it has applied all of
+-- them the next one is read
+abbrev pub next_step : State → Step
+next_step state = if state.applied == length state.list then Offer (length state.list + 1) else Advance
+
+-- stream s of a board, which hasn't come to its feed's end, is refused so at its next step
+pub record IsStopped (feeds : List FeedValue) (board : Meaning) (s : ℕ) (refusal : StepRefusal) : Type 0 where
+  pub state : State
+  pub stream : slice_get board.streams s ≡ Some state
+  pub going : ¬ (StreamHasEnded feeds s board)
+  pub refused : IsReply feeds board (s, next_step state) (Err refusal) board
+
+-- the same of a board between two others, as the board moved from one to the other; the stream still stands as it did
+pub record WasStopped (feeds : List FeedValue) (old new : Meaning) (s : ℕ) (refusal : StepRefusal) : Type 0 where
+  pub between : Meaning
+  pub before : HasMoved feeds old between
+  pub stopped : IsStopped feeds between s refusal
+  pub behind : HasMoved feeds between new
+  pub still : slice_get new.streams s ≡ slice_get between.streams s
+
+-- a stream that is refused so was
+abbrev pub IsRefusedAs : List FeedValue → Meaning → Meaning → ℕ → Option (Result Bool StepRefusal) → Type 0
+IsRefusedAs feeds old new s (Some (Err refusal)) = WasStopped feeds old new s refusal
+IsRefusedAs feeds old new s answer = Unit {0}
+
+-- of each stream that is refused why
+abbrev pub AreRefusedAs : List (Result Bool StepRefusal) → List FeedValue → Meaning → Meaning → Type 0
+AreRefusedAs answers feeds old new = (s : ℕ) → IsRefusedAs feeds old new s (slice_get answers s)
 
 -- ---- laws
 

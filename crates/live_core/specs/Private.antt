@@ -2,3 +2,4 @@
 pub mod Keys
 pub mod Grown
 pub mod Kept
+pub mod Moving

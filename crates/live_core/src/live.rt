@@ -5,7 +5,7 @@ ghost use Rattle.std.specs.Option.{option_map_or};
 ghost use Rattle.change_laws.specs.Changes.{LeadOn, changes_in};
 ghost use Rattle.change_laws.specs.Since.{HasMoved};
 ghost use Rattle.checkpoint_laws.specs.Written.{checkpoint_of};
-ghost use Rattle.live_core.specs.Live.{AreApplied, AreCounted, AreOfSources, AreRunning, HaveEndedAs, IsLive, IsRefusedPiece, IsToldExactly, TakesPiece, told_rows};
+ghost use Rattle.live_core.specs.Live.{AreApplied, AreCounted, AreOfSources, AreRefusedAs, AreRunning, AreUpTo, HaveEndedAs, IsLive, IsRefusedPiece, IsToldExactly, TakesPiece, told_rows};
 ghost use Rattle.live_core.specs.Source.{bytes_of};
 
 use crate::growing::grow_in;
@@ -117,6 +117,10 @@ impl<'h> Live<'h> {
         ensures moved { HasMoved self.old.fed.feeds self.old.fed.board self.new.fed.board }
         ensures kept { OnErr result (self.new.fed.board ≡ self.old.fed.board) }
         ensures ended { IfOk result (λ ended. HaveEndedAs ended.items self.new.fed.feeds self.new.fed.board) }
+        // A stream that hasn't come to its feed's end has applied just `most` groups.
+        ensures up_to { IfOk result (λ ended. AreUpTo most ended.items self.old.fed.board self.new.fed.board) }
+        // A refusal is of the stream's next step, on the board as it was then.
+        ensures refused { IfOk result (λ ended. AreRefusedAs ended.items self.old.fed.feeds self.old.fed.board self.new.fed.board) }
         ensures feeds { self.new.fed.feeds ≡ self.old.fed.feeds }
         ensures bytes { self.new.bytes ≡ self.old.bytes }
         ensures told { self.new.told ≡ self.old.told }
