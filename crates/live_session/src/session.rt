@@ -1,9 +1,9 @@
 //! A session.
 
-ghost use Rattle.std.specs.Prelude.{◌≡◌, IfOk, OnOk, length};
+ghost use Rattle.std.specs.Prelude.{◌≡◌, IfErr, IfOk, OnOk, length};
 ghost use Rattle.board_laws.specs.FedBoards.{IsFedBoard};
 ghost use Rattle.live_core.specs.Live.{IsLive};
-ghost use Rattle.live_session.specs.Turns.{IsServed, stand_of};
+ghost use Rattle.live_session.specs.Turns.{IsBroken, IsServed, stand_of};
 
 use crate::arrivals::Arrivals;
 use crate::seat::Seat;
@@ -85,6 +85,8 @@ impl<'h> Session<'h> {
     ) -> Result<(), ServeFault>
         // Each line of the input was answered, in order.
         ensures served { OnOk result (IsServed (stand_of (I.remaining input.old) self.old (O.written out.old)) (stand_of (I.remaining input.new) self.new (O.written out.new))) }
+        // Else they were, up to one that couldn't be read, or whose answer couldn't be written.
+        ensures broken { IfErr result (λ fault. IsBroken fault (stand_of (I.remaining input.old) self.old (O.written out.old)) (stand_of (I.remaining input.new) self.new (O.written out.new))) }
         // However it ends, the board shows its sources, and is lawful.
         ensures live { IsLive self.new.live }
         ensures fed { IsFedBoard self.new.live.fed.feeds self.new.live.fed.board }

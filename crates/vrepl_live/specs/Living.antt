@@ -13,7 +13,7 @@ use Rattle.live_opening.specs.Opened.{IsOpened, IsUnopened}
 use Rattle.live_opening.specs.declared.unopened.Unopened.{Unopened}
 use Rattle.live_opening.specs.declared.unopened.Unopened.TheVariants.{Workflow, FeedCount, Feed, Checkpoint, Stream}
 use Rattle.live_session.specs.Sessions.{SessionValue}
-use Rattle.live_session.specs.Turns.{IsServed, number_of_serve, stand_of}
+use Rattle.live_session.specs.Turns.{IsBroken, IsServed, number_of_serve, stand_of}
 use Rattle.live_session.specs.declared.serve.ServeFault.{ServeFault}
 use Rattle.live_session.specs.declared.serve.ServeFault.TheVariants as serve
 use Rattle.vrepl_live.specs.declared.living.LiveInputs.{LiveInputs}
@@ -76,7 +76,15 @@ pub record HasServed (live : LiveValue) (input : Option (List ℕ)) (written : W
   pub end : SessionValue
   pub served : IsServed (stand_of input start written) (stand_of input_left end written_then)
 
--- the same from the board that the inputs make
+-- From this board one was broken off: its requests were answered in order, up to one that couldn't be read, or whose answer
+-- couldn't be written; or there was no memory for it, and nothing was read.
+pub record HasBroken (live : LiveValue) (fault : ServeFault) (input : Option (List ℕ)) (written : Written) (input_left : Option (List ℕ)) (written_then : Written) : Type 0 where
+  pub start : SessionValue
+  pub of_board : start.live ≡ live
+  pub end : SessionValue
+  pub broken : IsBroken fault (stand_of input start written) (stand_of input_left end written_then)
+
+-- from the board that the inputs make a session was served
 pub record HasLived (inputs : LiveInputs) (old new : Outside) : Type 0 where
   pub live : LiveValue
   pub opened : IsOpenedBy inputs live
@@ -90,11 +98,12 @@ pub record HasNotBegun (inputs : LiveInputs) (old new : Outside) : Type 0 where
   pub answers : new.answers ≡ old.answers
   pub line : PrintsOrBreaks old.refusals new.refusals (unopened_line unopened)
 
--- From the board that the inputs make a session was begun, and broken off: the line says why.
+-- From the board that the inputs make a session was served, and broken off: the line says why.
 pub record HasBrokenOff (inputs : LiveInputs) (old new : Outside) : Type 0 where
   pub live : LiveValue
   pub opened : IsOpenedBy inputs live
   pub fault : ServeFault
+  pub broken : HasBroken live fault old.input old.answers new.input new.answers
   pub line : PrintsOrBreaks old.refusals new.refusals (broken_line fault)
 
 abbrev pub HasRefused : LiveInputs → Outside → Outside → Type 0
