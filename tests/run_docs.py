@@ -34,7 +34,7 @@ PAGES = [
     *sorted(f"docs/{it}" for it in os.listdir(os.path.join(ROOT, "docs"))),
     *sorted(f"crates/{it}/CALLING.md" for it in os.listdir(CRATES) if os.path.exists(os.path.join(CRATES, it, "CALLING.md"))),
 ]  # fmt: skip
-PATH = re.compile(r"(?<![\w/.])((?:docs|tests|examples|bench|scripts|share|record|fleet|dist|crates)/[\w./-]*\w)")
+PATH = re.compile(r"(?<![\w/.])((?:docs|tests|examples|bench|scripts|share|record|fleet|serve|dist|crates)/[\w./-]*\w)")
 
 
 def text_of(*path):
@@ -181,7 +181,7 @@ def path_faults():
 
 # What docs/MAP.md has a list for, and the files that such a list is whole of.
 FURTHER = ("vindex", "event", "subcommand", "column type", "refusal number", "definition")
-WHOLE = re.compile(r"(?:crates/(?!\w+_tests/|\w+/CALLING\.md)|bindings/|fleet/|include/|record/|scripts/|tests/model/)|(?:build|crates\.txt)$")
+WHOLE = re.compile(r"(?:crates/(?!\w+_tests/|\w+/CALLING\.md)|bindings/|fleet/|include/|record/|scripts/|serve/|tests/model/)|(?:build|crates\.txt)$")
 
 
 @functools.cache

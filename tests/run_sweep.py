@@ -9,7 +9,7 @@ each growth that it asks for: with that growth refused, and with that one and al
 do what the case wants, or to print nothing, say `refused 72`, or the same as JSON where the words ask for that, and end with status 1; a
 refusal's place, of `check`, may be missing or be told of `refused 72`. In a script the
 line of a refused step is its reply: there `refused 72` may stand in place of a reply, behind which the
-script goes on from another state.
+script goes on from another state. So it may in a session's answers, where it is a refused request's or of a stream.
 
 The tests of the crates in SWEPT, as the gate (or `rt test`) has built them, run in the same way, each test
 once or twice for each growth that it asks for. A test may fail only with want of memory: as the error that
@@ -55,6 +55,7 @@ TESTS = os.path.dirname(os.path.abspath(__file__))
 ROOT = os.path.dirname(TESTS)
 REFUSED = (1, b"", b"refused 72\n")
 REFUSED_AS_JSON = (1, b"", refusal.as_json(b"refused 72\n"))
+WANTS_MEMORY = b'"refused":{"number":72,'
 PASSED_TEST = re.compile(r"^test (\S+) \.\.\. ok$", re.M)
 FAILED_TEST = re.compile(r"^test (\S+) \.\.\. FAILED\n((?:    .*\n)*)", re.M)
 IS_MEMORY = re.compile(r"^ +(?:error|left): .*\b(?:Memory|OutOfMemory|AllocError|AllocFailed)\b", re.M)
@@ -67,6 +68,14 @@ def is_reply_of_a_step(case, status, stdout, stderr):
     first = replies[same.index(False) :][:1]
     is_script = case.words[:1] in ([b"step"], [b"resume"])
     return is_script and (status, stderr, first) == (case.status, case.stderr, [b"refused 72"])
+
+
+def is_answer_of_a_session(case, status, stdout, stderr):
+    """Answers whether a session's answers are those wanted up to one that tells of want of memory: its request's, or a stream's."""
+    answers, wanted = stdout.splitlines(), case.stdout.splitlines()
+    first = [answer for answer, other in zip(answers, wanted) if answer != other][:1]
+    is_session = case.words[:1] == [b"live"] and len(answers) == len(wanted)
+    return is_session and (status, stderr) == (case.status, case.stderr) and any(WANTS_MEMORY in it for it in first)
 
 
 def is_told_without_its_place(case, status, stdout, stderr):
@@ -89,7 +98,7 @@ def sweep_case(program, library, name):
         for at in range(1, growths + 1):
             for refused in (f"{at}", f"{at}+"):
                 ran = case.run(program, place, {**preloaded, "REFUSE_GROWTH": refused})
-                if case.faults(*ran) and not is_told_without_its_place(case, *ran) and not is_reply_of_a_step(case, *ran):
+                if case.faults(*ran) and not (is_told_without_its_place(case, *ran) or is_reply_of_a_step(case, *ran) or is_answer_of_a_session(case, *ran)):
                     return f"growth {refused} of {growths} refused: status {ran[0]}, output {ran[1]!r}, error {ran[2]!r}", growths
     return None, growths
 

@@ -41,10 +41,10 @@ def die_with_parent() -> None:
 
 class Server:
     """Use it with `with`: the server and its folder are gone afterwards, the server also where the test is killed. `number` is the
-    one by which it is known among others."""
+    one by which it is known among others; `more` are further settings of it."""
 
-    def __init__(self, number: int = 7) -> None:
-        self._number = number
+    def __init__(self, number: int = 7, *more: str) -> None:
+        self._number, self._more = number, more
 
     def __enter__(self) -> "Server":
         # a socket's path is short, and the server, which may run as another user, has to reach it
@@ -88,7 +88,7 @@ class Server:
         how = {"user": user, "group": pwd.getpwnam(user).pw_gid, "extra_groups": []} if user else {}
         self._process = subprocess.Popen(
             [command("mariadbd"), "--no-defaults", f"--datadir={data}", f"--socket={self.socket}", f"--pid-file={self.folder}/pid", f"--tmpdir={data}",
-             f"--server-id={self._number}", *SETTINGS],
+             f"--server-id={self._number}", *SETTINGS, *self._more],
             stdin=subprocess.DEVNULL, stdout=self._log, stderr=self._log, preexec_fn=die_with_parent, env=self._told, **how)  # fmt: skip
         begun = time.monotonic()
         while self._process.poll() is None and time.monotonic() - begun < PATIENCE:
@@ -97,6 +97,10 @@ class Server:
             time.sleep(0.05)
         with open(self._log.name, encoding="utf-8", errors="replace") as log:
             raise RuntimeError(f"mariadbd doesn't answer: {log.read()[-800:]}")
+
+    def number(self) -> int:
+        """The process's."""
+        return self._process.pid
 
     def sql(self, text: str, check: bool = True) -> subprocess.CompletedProcess:
         """Runs statements with the client, as `record/select` wants it; stdout is bytes."""

@@ -69,9 +69,28 @@ impl NewFile {
         self.file.sync_all()
     }
 
+    /// The same, and locks it, as a file is that a call replaces.
+    pub(crate) fn finish_locked(&self) -> Result<(), KeepFault> {
+        if self.finish().is_err() || self.file.try_lock().is_err() {
+            return Err(KeepFault::CannotWrite);
+        }
+        Ok(())
+    }
+
     /// Takes its name away.
-    pub(crate) fn remove(self, rt: &HostRuntime) {
+    pub(crate) fn remove(self, rt: &HostRuntime) -> File {
         let _ = fs::remove_file(rt, self.name.as_str());
+        self.into_file()
+    }
+
+    /// The file, which is open, whatever its name is.
+    pub(crate) fn into_file(self) -> File {
+        let NewFile {
+            name: _,
+            file,
+            rights: _,
+        } = self;
+        file
     }
 }
 

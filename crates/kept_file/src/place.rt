@@ -17,11 +17,14 @@ struct Found {
     rights: Rights,
 }
 
-/// Where a file is to be kept: its name, behind all links, and which file was found there, if any was.
+/// Where a file is to be kept: its name, behind all links, and which file was found there, or put there by a call that goes
+/// on to hold it, if any was.
 #[derive(Drop)]
 pub struct Place {
     file: String,
     found: Option<Found>,
+    /// the file that was put there, open and locked
+    held: Option<File>,
 }
 
 /// A file that is written beside a place, to be put there.
@@ -58,6 +61,7 @@ impl Place {
             Err(fault) if fault.kind() == ErrorKind::NotFound => Ok(Place {
                 file: String::from_str(rt.alloc(), file)?,
                 found: None,
+                held: None,
             }),
             Err(fault) => Err(untold(&fault)),
         }
@@ -85,6 +89,7 @@ impl Place {
                     stamp: Stamp::of(told),
                     rights: Rights::of(told),
                 }),
+                held: None,
             })
         } else {
             Err(PlaceFault::Irregular)
@@ -107,15 +112,50 @@ impl Place {
     /// After a refusal the file is as it was, or as another call left it, and nothing stays beside it; but where the
     /// folder couldn't be brought onto the disk (`CannotWrite`) it can be either.
     pub fn replace(&self, rt: &HostRuntime, bytes: &[u8]) -> Result<(), KeepFault> {
+        let draft = self.begin_with(rt, bytes)?;
+        self.end(rt, draft)
+    }
+
+    /// The same, and holds the place from then on: its file is then the one that was put there, which is locked as long as
+    /// the place lives. So a call that keeps one file many times lets no other call replace it in between, and what
+    /// another program puts there all the same stays (`Changed`).
+    ///
+    /// After a refusal the file is as `replace` says, and it can be tried again; where the folder couldn't be brought onto
+    /// the disk (`CannotWrite`) the file that is there is held.
+    pub fn replace_again(&mut self, rt: &HostRuntime, bytes: &[u8]) -> Result<(), KeepFault> {
+        let Draft { new, folder } = self.begin_with(rt, bytes)?;
+        if let Err(fault) = new.finish_locked() {
+            new.remove(rt);
+            return Err(fault);
+        }
+        let file = self.put(rt, new)?;
+        self.hold(file);
+        folder.sync_all().map_err(|_| KeepFault::CannotWrite)
+    }
+
+    /// A file of its own beside the place, with these bytes.
+    fn begin_with(&self, rt: &HostRuntime, bytes: &[u8]) -> Result<Draft, KeepFault> {
         let draft = self.begin(rt)?;
         let mut file = draft.file();
         match file.write_all(bytes) {
-            Ok(()) => self.end(rt, draft),
+            Ok(()) => Ok(draft),
             Err(_) => {
                 draft.remove(rt);
                 Err(KeepFault::CannotWrite)
             }
         }
+    }
+
+    /// The file that was put there is the one that is replaced next. Where the system doesn't say which one that is, the next
+    /// call finds another one than it knows.
+    fn hold(&mut self, file: File) {
+        if let Ok(told) = file.metadata() {
+            self.found = Some(Found {
+                stamp: Stamp::of(&told),
+                rights: Rights::of(&told),
+            });
+        }
+        self.held = Some(file);
     }
 
     /// A file of its own beside the place, to be written by the caller, who then ends it by `end` or takes it away by
@@ -134,21 +174,22 @@ impl Place {
             new.remove(rt);
             return Err(KeepFault::CannotWrite);
         }
-        self.put(rt, new)?;
+        let _put = self.put(rt, new)?;
         folder.sync_all().map_err(|_| KeepFault::CannotWrite)
     }
 
-    /// Puts a new file in the place. Once it is renamed its own name is anybody's, and isn't taken away.
-    fn put(&self, rt: &HostRuntime, new: NewFile) -> Result<(), KeepFault> {
+    /// Puts a new file in the place, and gives it, open. Once it is renamed its own name is anybody's, and isn't taken away.
+    fn put(&self, rt: &HostRuntime, new: NewFile) -> Result<File, KeepFault> {
         let put = match &self.found {
             None => self.put_first(rt, new.name()),
             Some(found) => match self.put_over(rt, new.name(), &found.stamp) {
-                Ok(()) => return Ok(()),
+                Ok(()) => return Ok(new.into_file()),
                 Err(fault) => Err(fault),
             },
         };
-        new.remove(rt);
-        put
+        let file = new.remove(rt);
+        put?;
+        Ok(file)
     }
 
     /// Gives the new file of this name that of the place, where nothing was found: a file that is there by now stays.
@@ -162,12 +203,29 @@ impl Place {
 
     /// Names the new file as the one that was found, of which one call at a time holds the lock.
     fn put_over(&self, rt: &HostRuntime, new: &str, found: &Stamp) -> Result<(), KeepFault> {
+        if let Some(held) = &self.held {
+            return self.put_over_open(rt, new, found, held);
+        }
         let old = match File::open(rt, self.file.as_str()) {
             Ok(old) => old,
             Err(fault) if fault.kind() == ErrorKind::NotFound => return Err(KeepFault::Changed),
             Err(_) => return Err(KeepFault::CannotWrite),
         };
-        if old.try_lock().is_err() || !self.is_still(rt, found) || !is_open(&old, found) {
+        if old.try_lock().is_err() {
+            return Err(KeepFault::Changed);
+        }
+        self.put_over_open(rt, new, found, &old)
+    }
+
+    /// The same over a file that is open and locked.
+    fn put_over_open(
+        &self,
+        rt: &HostRuntime,
+        new: &str,
+        found: &Stamp,
+        old: &File,
+    ) -> Result<(), KeepFault> {
+        if !self.is_still(rt, found) || !is_open(old, found) {
             return Err(KeepFault::Changed);
         }
         fs::rename(rt, new, self.file.as_str()).map_err(|_| KeepFault::CannotWrite)

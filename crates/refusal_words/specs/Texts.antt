@@ -8,7 +8,7 @@ use Rattle.refusal_words.specs.declared.workflow.TheConstants.{NOT_JSON, SHAPE, 
 use Rattle.refusal_words.specs.declared.target.TheConstants.{OTHER_ROW, MEMORY}
 use Rattle.refusal_words.specs.declared.feed.TheConstants.{CUT_MESSAGE, BAD_EVENT, NO_POSITION, DIVERGES, FIELDS_DIFFER, NO_FIELDS, ROW_WIDTH, OPEN_AT_END, OTHER_SHARD, BAD_ROW, NO_GROUP, MISPLACED, NOT_HEX, BAD_POSITION, LONG_FEED}
 use Rattle.refusal_words.specs.declared.steps.TheConstants.{GAP, NOTHING_READ, SNAPSHOT_REACHED, NOT_COPYING, SNAPSHOT_OPEN, SNAPSHOT_BEHIND, SNAPSHOT_NOT_READ, NO_SNAPSHOT, NOT_REACHED, OTHER_PLAN, OTHER_GROUP, OTHER_HISTORY, NO_STREAM}
-use Rattle.refusal_words.specs.declared.files.TheConstants.{BAD_CHECKPOINT, OTHER_ROWS, UNKNOWN_POSITION, FEED_COUNT, BAD_SCRIPT, BAD_DUMP, CHANGED, CANNOT_READ, CANNOT_WRITE, BAD_TEXT, UNKNOWN_TABLE, SHORT_FEED}
+use Rattle.refusal_words.specs.declared.files.TheConstants.{BAD_CHECKPOINT, OTHER_ROWS, UNKNOWN_POSITION, FEED_COUNT, BAD_SCRIPT, BAD_DUMP, CHANGED, CANNOT_READ, CANNOT_WRITE, BAD_TEXT, UNKNOWN_TABLE, NO_REQUEST, NO_TABLE, OTHER_KEY, OTHER_FILE, SHORT_FEED}
 use Rattle.refusal_words.specs.declared.logs.TheConstants.{NO_LOG, CUT_LOG, SMALL_EVENT, LOG_SUM, LOG_VERSION, LOG_CHECKS, CUT_BODY, NOT_ALL, LOG_COLUMNS, LOG_TYPE, LOG_VALUE, LOG_STATEMENT, LOG_ALTERED, LOG_PACKED, LOG_INCIDENT, LOG_EVENT, LOG_ORDER, LOG_UNNAMED, LOG_BACK, LOG_BEGINS}
 
 -- the text that stands beside a number
@@ -106,7 +106,7 @@ steps_texts =
     (115, NO_STREAM.now) ∷
     []
 
--- checkpoints, scripts, dumps and files
+-- checkpoints, scripts, dumps, requests of a session, and files
 abbrev pub files_texts : List (ℕ × List ℕ)
 files_texts =
     (116, BAD_CHECKPOINT.now) ∷
@@ -116,6 +116,10 @@ files_texts =
     (120, BAD_SCRIPT.now) ∷
     (121, BAD_DUMP.now) ∷
     (123, UNKNOWN_TABLE.now) ∷
+    (124, NO_REQUEST.now) ∷
+    (125, NO_TABLE.now) ∷
+    (126, OTHER_KEY.now) ∷
+    (127, OTHER_FILE.now) ∷
     (128, SHORT_FEED.now) ∷
     (129, CHANGED.now) ∷
     (131, CANNOT_READ.now) ∷

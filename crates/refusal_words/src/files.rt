@@ -1,4 +1,4 @@
-//! Numbers 116 to 132: checkpoints, scripts, dumps and files.
+//! Numbers 116 to 133: checkpoints, scripts, dumps, requests of a session, and files.
 
 ghost use Rattle.std.specs.Prelude.{◌≡◌, option_map};
 ghost use Rattle.refusal_words.specs.Texts.{text_among, files_texts};
@@ -15,6 +15,10 @@ pub(crate) fn text_of(number: u64) -> Option<&'static str>
         120 => Some(BAD_SCRIPT),
         121 => Some(BAD_DUMP),
         123 => Some(UNKNOWN_TABLE),
+        124 => Some(NO_REQUEST),
+        125 => Some(NO_TABLE),
+        126 => Some(OTHER_KEY),
+        127 => Some(OTHER_FILE),
         128 => Some(SHORT_FEED),
         129 => Some(CHANGED),
         131 => Some(CANNOT_READ),
@@ -100,6 +104,50 @@ Usual causes: a feed of a whole keyspace under a workflow of some of its tables;
 a table that is to be added later.
 What to do: add the table to the workflow first; or, if nothing will ever want
 its rows, run the command again with --drop-unknown.
+";
+
+pub const NO_REQUEST: &str = "\
+124  a line is no request of a session
+
+A line on the standard input of `live` is none of its requests, or longer than
+65536 bytes, of which the rest is passed over; or it is `save` without
+--save-to. The session goes on.
+Usual causes: a misspelt word; a word too many or too few; a blank in place of
+the tab between two words; a number out of its range, or with a sign.
+What to do: docs/FORMATS.md has the requests.
+";
+
+pub const NO_TABLE: &str = "\
+125  the workflow has no such table
+
+The TABLE of a session's request isn't the name of a table of the workflow. The
+session goes on.
+Usual causes: a misspelt name; the keyspace and a dot before it, which the
+workflow's names don't have; a blank at its end.
+What to do: name it as the workflow file does. `counts` tells all tables.
+";
+
+pub const OTHER_KEY: &str = "\
+126  a key isn't one of its table
+
+The KEY of a session's request is none of its TABLE. The session goes on.
+Usual causes: more or fewer cells than the key has columns, or no comma between
+two; a cell that isn't x and hexadecimal digits, two a byte; NULL; a cell of a
+number's column that isn't its decimal text, or out of range.
+What to do: give a key as answers have it, its cells parted by commas: `x37` is
+the number 7.
+";
+
+pub const OTHER_FILE: &str = "\
+127  a feed's file is another one, or was cut
+
+The file of a feed of `live` isn't the one that was opened, by device and inode,
+or it is shorter than what was taken of it. Its stream stays where it is; the
+others go on.
+Usual causes: the feed was compacted, or copied in the place of the old one; it
+was recorded anew.
+What to do: save and end the session, and begin it anew with --checkpoint. What
+was taken of a feed may never change; a compacted one has it all.
 ";
 
 pub const SHORT_FEED: &str = "\

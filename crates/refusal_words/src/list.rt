@@ -70,6 +70,10 @@ pub const LIST: &str = "\
 120  a line of the script is no step
 121  a line of a dump can't stand there
 123  rows of a table that the workflow lacks would be lost
+124  a line is no request of a session
+125  the workflow has no such table
+126  a key isn't one of its table
+127  a feed's file is another one, or was cut
 128  a feed doesn't reach the position of --until
 129  a file changed before it could be replaced
 131  a file can't be read

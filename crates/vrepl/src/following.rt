@@ -90,7 +90,7 @@ fn inputs_over<'h, 'f, 'w>(
 }
 
 /// The bytes of the checkpoint of this name, where there is one.
-fn read_saved<'w>(
+pub(crate) fn read_saved<'w>(
     rt: &HostRuntime,
     name: Option<&'w str>,
 ) -> Result<Option<Vec<u8>>, CommandRefusal<'w>> {

@@ -1,5 +1,5 @@
 -- What the words that were read ask for.
-use Rattle.vrepl_words.specs.Words.{CheckValue, ExplainValue, FollowValue, JoinValue, PortionsValue, ResumeValue, RunValue, SaveValue, ShowValue, StatusValue, StepValue, TilesValue, VdiffValue, WordsValue, asks_follow, asks_join, asks_run, asks_show, asks_step, asks_save, asks_resume, asks_vdiff, asks_check, asks_tiles, asks_status, asks_explain, CompactValue, asks_compact, TranscribeValue, asks_transcribe, FeedValue, asks_feed}
+use Rattle.vrepl_words.specs.Words.{CheckValue, ExplainValue, FollowValue, JoinValue, LiveValue, PortionsValue, ResumeValue, RunValue, SaveValue, ShowValue, StatusValue, StepValue, TilesValue, VdiffValue, WordsValue, asks_follow, asks_join, asks_live, asks_run, asks_show, asks_step, asks_save, asks_resume, asks_vdiff, asks_check, asks_tiles, asks_status, asks_explain, CompactValue, asks_compact, TranscribeValue, asks_transcribe, FeedValue, asks_feed}
 use Rattle.std.specs.Prelude.{◌≡◌, map, option_map, Option, None, Some, Result, Ok, Err}
 use Rattle.vrepl_choices.specs.UntilValue.{until_value}
 use Rattle.vrepl_words.specs.declared.portions.Portions.{Portions}
@@ -9,6 +9,7 @@ use Rattle.vrepl_words.specs.declared.words.Explain.{Explain}
 use Rattle.vrepl_words.specs.declared.words.Feed.{Feed}
 use Rattle.vrepl_words.specs.declared.words.Follow.{Follow}
 use Rattle.vrepl_words.specs.declared.words.Join.{Join}
+use Rattle.vrepl_words.specs.declared.words.Live.{Live}
 use Rattle.vrepl_words.specs.declared.words.Resume.{Resume}
 use Rattle.vrepl_words.specs.declared.words.Run.{Run}
 use Rattle.vrepl_words.specs.declared.words.Save.{Save}
@@ -109,6 +110,16 @@ follow_value follow = record {
   save_to = follow.save_to.now;
 }
 
+abbrev pub live_value : Live → LiveValue
+live_value live = record {
+  threading = live.threading;
+  portions = portions_value live.portions;
+  checkpoint = option_map (λ name. name.now) live.checkpoint;
+  save_to = option_map (λ name. name.now) live.save_to;
+  workflow = live.workflow.now;
+  feeds = map (λ feed. feed.now) live.feeds.items;
+}
+
 abbrev pub vdiff_value : Vdiff → VdiffValue
 vdiff_value files = record {
   tables = files.tables;
@@ -134,6 +145,7 @@ value_of_words (words.Save save) = asks_save (save_value save)
 value_of_words (words.Resume resume) = asks_resume (resume_value resume)
 value_of_words (words.Join join) = asks_join (join_value join)
 value_of_words (words.Follow follow) = asks_follow (follow_value follow)
+value_of_words (words.Live live) = asks_live (live_value live)
 value_of_words (words.Vdiff files) = asks_vdiff (vdiff_value files)
 value_of_words (words.Check check) = asks_check (check_value check)
 value_of_words (words.Tiles tiles) = asks_tiles (tiles_value tiles)

@@ -56,6 +56,16 @@ pub record FollowValue : Type 0 where
   pub checkpoint : Option Text
   pub save_to : Text
 
+-- `live`: a workflow, a feed for each of its streams, how the streams run, in what portions, the checkpoint to go on from, if
+-- there is one, and the file of the checkpoints that are saved, if there is one
+pub record LiveValue : Type 0 where
+  pub threading : Threading
+  pub portions : PortionsValue
+  pub checkpoint : Option Text
+  pub save_to : Option Text
+  pub workflow : Text
+  pub feeds : List Text
+
 -- `resume`: a checkpoint, whether it is told how far it is, and what `step` is given
 pub record ResumeValue : Type 0 where
   pub checkpoint : Text
@@ -153,6 +163,7 @@ pub data WordsValue : Type 0 where
   asks_resume : ResumeValue → WordsValue
   asks_join : JoinValue → WordsValue
   asks_follow : FollowValue → WordsValue
+  asks_live : LiveValue → WordsValue
   asks_vdiff : VdiffValue → WordsValue
   asks_check : CheckValue → WordsValue
   asks_tiles : TilesValue → WordsValue
@@ -303,6 +314,25 @@ follow_subcommand = record {
   meaning = λ given. if gives_streams (codes "only") given then (if gives_untils (codes "until") given then option_map (λ portions. asks_follow (follow_given given portions)) (portions_given given) else None) else None;
 }
 
+-- what is given to the arguments of `live`
+abbrev pub live_given : List Row → PortionsValue → LiveValue
+live_given given portions = record {
+  threading = threading_given given;
+  portions = portions;
+  checkpoint = first_of (codes "checkpoint") given;
+  save_to = first_of (codes "save-to") given;
+  workflow = text_given (codes "workflow") given;
+  feeds = texts_given (codes "feed") given;
+}
+
+-- `live [--alone] [--rows N] [--ahead N] [--chunks N] [--checkpoint TEXT] [--save-to TEXT] WORKFLOW FEED..`
+abbrev pub live_subcommand : Subcommand
+live_subcommand = record {
+  name = codes "live";
+  rules = flag_rule (codes "alone") ∷ option_rule (codes "rows") ∷ option_rule (codes "ahead") ∷ option_rule (codes "chunks") ∷ option_rule (codes "checkpoint") ∷ option_rule (codes "save-to") ∷ operand_rule (codes "workflow") ∷ operands_rule (codes "feed") ∷ [];
+  meaning = λ given. option_map (λ portions. asks_live (live_given given portions)) (portions_given given);
+}
+
 -- what is given to the arguments of `vdiff`
 abbrev pub vdiff_given : List Row → Option ℕ → VdiffValue
 vdiff_given given first = record {
@@ -427,7 +457,7 @@ explain_subcommand = record {
 
 -- the subcommands, in the order of the help
 abbrev pub subcommands : List Subcommand
-subcommands = show_subcommand ∷ step_subcommand ∷ run_subcommand ∷ vdiff_subcommand ∷ save_subcommand ∷ resume_subcommand ∷ join_subcommand ∷ follow_subcommand ∷ check_subcommand ∷ tiles_subcommand ∷ status_subcommand ∷ compact_subcommand ∷ transcribe_subcommand ∷ feed_subcommand ∷ explain_subcommand ∷ []
+subcommands = show_subcommand ∷ step_subcommand ∷ run_subcommand ∷ vdiff_subcommand ∷ save_subcommand ∷ resume_subcommand ∷ join_subcommand ∷ follow_subcommand ∷ live_subcommand ∷ check_subcommand ∷ tiles_subcommand ∷ status_subcommand ∷ compact_subcommand ∷ transcribe_subcommand ∷ feed_subcommand ∷ explain_subcommand ∷ []
 
 -- a subcommand as `clap` sees it
 abbrev pub shape_of_subcommand : Subcommand → Shape

@@ -4,7 +4,7 @@ ghost use Rattle.std.specs.Prelude.{IfOk, codes};
 ghost use Rattle.clap.specs.Words.{App, Rule, new_app, with_rule, with_subcommand};
 ghost use Rattle.vrepl_words.specs.Arguments.{flag_rule, further_rule, needed_rule, operand_rule, operands_rule, option_rule, optional_rule};
 ghost use Rattle.vrepl_words.specs.Built.{HasApp, HasRule, IsSubcommand, bare_app};
-ghost use Rattle.vrepl_words.specs.Words.{check_subcommand, explain_subcommand, follow_subcommand, join_subcommand, program_app, resume_subcommand, run_subcommand, save_subcommand, show_subcommand, status_subcommand, step_subcommand, tiles_subcommand, vdiff_subcommand, compact_subcommand, transcribe_subcommand, feed_subcommand};
+ghost use Rattle.vrepl_words.specs.Words.{check_subcommand, explain_subcommand, follow_subcommand, join_subcommand, live_subcommand, program_app, resume_subcommand, run_subcommand, save_subcommand, show_subcommand, status_subcommand, step_subcommand, tiles_subcommand, vdiff_subcommand, compact_subcommand, transcribe_subcommand, feed_subcommand};
 
 use crate::help;
 use clap::{Arg, ArgAction, Command};
@@ -23,6 +23,7 @@ pub(crate) fn program<'w>(alloc: Global) -> Result<Command<'w>, AllocError>
     let command = with_subcommand(command, resume_command(alloc));
     let command = with_subcommand(command, join_command(alloc));
     let command = with_subcommand(command, follow_command(alloc));
+    let command = with_subcommand(command, live_command(alloc));
     let command = with_subcommand(command, check_command(alloc));
     let command = with_subcommand(command, tiles_command(alloc));
     let command = with_subcommand(command, status_command(alloc));
@@ -291,6 +292,31 @@ pub(crate) fn follow_command<'w>(alloc: Global) -> Result<Command<'w>, AllocErro
     with_streams(
         alloc,
         with_arg(command, needed(alloc, "save-to", "FILE", save_help)),
+    )
+}
+
+pub(crate) fn live_command<'w>(alloc: Global) -> Result<Command<'w>, AllocError>
+    ensures { IfOk result (IsSubcommand live_subcommand) }
+{
+    let alone_help = "Runs the streams one after another, without threads";
+    let rows_help = "Rows that are copied at a time, 1000 unless given";
+    let ahead_help = "Groups read before a snapshot, 100 unless given";
+    let chunks_help = "Chunks that are copied of a snapshot, 4 unless given";
+    let checkpoint_help = "The checkpoint to go on from; nothing unless given";
+    let save_help = "The file that a saved checkpoint takes the place of";
+    let about = "Answers requests over a target that goes on with its feeds";
+    let command = Ok(bare(alloc, "live", about, help::LIVE));
+    let command = with_arg(command, flag(alloc, "alone", alone_help));
+    let command = with_arg(command, option(alloc, "rows", "N", rows_help));
+    let command = with_arg(command, option(alloc, "ahead", "N", ahead_help));
+    let command = with_arg(command, option(alloc, "chunks", "N", chunks_help));
+    let command = with_arg(
+        command,
+        option(alloc, "checkpoint", "FILE", checkpoint_help),
+    );
+    with_streams(
+        alloc,
+        with_arg(command, option(alloc, "save-to", "FILE", save_help)),
     )
 }
 

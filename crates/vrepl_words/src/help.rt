@@ -149,6 +149,33 @@ Status:
   1  refused; `vrepl explain NUMBER` says what the line's number means
   2  a fault of usage";
 
+/// A session of `live` and what it answers.
+pub(crate) const LIVE: &str = "\
+Example:
+  $ xxd -r -p examples/one_insert.hex > one_insert.feed
+  $ printf 'row\\tt\\tx31\\nend\\n' | vrepl live \\
+      examples/workflows/one_shard.json one_insert.feed
+  {\"ok\":{\"row\":[\"x31\",\"x6162\"],\"stream\":0}}
+  {\"ok\":{}}
+
+Requests come on standard input, a line each, their words parted by a tab, and
+each is answered by one line of JSON:
+  more [GROUPS]               reads on what was appended to the feeds
+  state                       where the streams stand
+  changes, told               what changed since the last of these two
+  rows TABLE [LIMIT [KEY]]    rows by key, from KEY on; 100 unless LIMIT is given
+  row TABLE KEY               the row at a key
+  counts                      how many rows there are
+  save                        puts the checkpoint into the file of --save-to
+  end                         ends the session, as the end of the input does
+A refused request changes nothing, and the session goes on. Feeds are bytes, to
+whose end others may append meanwhile.
+
+Status:
+  0  the session ended
+  1  refused; `vrepl explain NUMBER` says what the line's number means
+  2  a fault of usage";
+
 /// A call of `vdiff` and what it prints.
 pub(crate) const VDIFF: &str = "\
 Example:

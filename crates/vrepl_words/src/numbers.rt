@@ -7,7 +7,8 @@ ghost use Rattle.vrepl_words.specs.Arguments.{count_given, portion_of, refusal_g
 ghost use Rattle.vrepl_words.specs.Words.{bad_follow, bad_portion, bad_run};
 
 use crate::commands::{
-    compact_command, explain_command, feed_command, follow_command, run_command, vdiff_command,
+    compact_command, explain_command, feed_command, follow_command, live_command, run_command,
+    vdiff_command,
 };
 use crate::given::{given_portions, portion, portion_of};
 use crate::streams::gives_streams;
@@ -88,6 +89,7 @@ pub(crate) fn bad_number(alloc: Global, matches: &ArgMatches<'_>) -> Result<Erro
         Some(("follow", given)) => {
             usage_fault(follow_command(alloc), "vrepl follow", bad_follow(given))
         }
+        Some(("live", given)) => usage_fault(live_command(alloc), "vrepl live", bad_portion(given)),
         Some(("compact", _)) => usage_fault(compact_command(alloc), "vrepl compact", STREAM),
         Some(("feed", _)) => usage_fault(feed_command(alloc), "vrepl feed", STREAM),
         Some(("vdiff", _)) => usage_fault(vdiff_command(alloc), "vrepl vdiff", FIRST),

@@ -3,8 +3,8 @@
 ghost use Rattle.std.specs.Prelude.{◌≡◌, ◌≢◌, [], IfOk, Some, map, string_bytes};
 ghost use Rattle.clap.specs.Words.{FailsBy, found_of, rows_of, subcommand_rows_of};
 ghost use Rattle.vrepl_words.specs.Built.{HasApp};
-ghost use Rattle.vrepl_words.specs.Meant.{Asks, explain_value, follow_value, portions_value, run_value, show_value, step_value, value_of_words, vdiff_value, compact_value, feed_value};
-ghost use Rattle.vrepl_words.specs.Words.{asked_by, asks_check, asks_join, asks_follow, asks_resume, asks_run, asks_save, asks_status, asks_step, asks_tiles, check_given, explain_given, explain_subcommand, faults_of, follow_given, follow_subcommand, join_given, program_app, resume_given, run_given, run_subcommand, save_given, show_given, status_given, step_given, tiles_given, vdiff_given, vdiff_subcommand, words_of, asks_compact, compact_given, compact_subcommand, asks_transcribe, transcribe_given, feed_given, feed_subcommand};
+ghost use Rattle.vrepl_words.specs.Meant.{Asks, explain_value, follow_value, live_value, portions_value, run_value, show_value, step_value, value_of_words, vdiff_value, compact_value, feed_value};
+ghost use Rattle.vrepl_words.specs.Words.{asked_by, asks_check, asks_join, asks_follow, asks_live, asks_resume, asks_run, asks_save, asks_status, asks_step, asks_tiles, check_given, explain_given, explain_subcommand, faults_of, follow_given, follow_subcommand, live_given, live_subcommand, join_given, program_app, resume_given, run_given, run_subcommand, save_given, show_given, status_given, step_given, tiles_given, vdiff_given, vdiff_subcommand, words_of, asks_compact, compact_given, compact_subcommand, asks_transcribe, transcribe_given, feed_given, feed_subcommand};
 
 use crate::choices::{feed_form_given, report_form_given, telling_given, threading_given};
 use crate::commands::program;
@@ -14,8 +14,8 @@ use crate::portions::Portions;
 use crate::streams::{gives_streams, stream_given, streams_given};
 use crate::untils::{gives_untils, untils_given};
 use crate::words::{
-    Check, Compact, Explain, Feed, Follow, Join, Resume, Run, Save, Show, Status, Step, Tiles,
-    Transcribe, Vdiff, Words,
+    Check, Compact, Explain, Feed, Follow, Join, Live, Resume, Run, Save, Show, Status, Step,
+    Tiles, Transcribe, Vdiff, Words,
 };
 use clap::{ArgMatches, Command, Error};
 use std::alloc::{AllocError, Global};
@@ -72,6 +72,7 @@ fn asked<'w>(alloc: Global, matches: &ArgMatches<'w>) -> Option<Result<Words<'w>
         "resume" => Some(resume_words(alloc, given)),
         "join" => Some(join_words(alloc, given)),
         "follow" => follow_words(alloc, given),
+        "live" => live_words(alloc, given),
         "vdiff" => vdiff_words(given),
         "check" => Some(check_words(alloc, given)),
         "tiles" => Some(tiles_words(alloc, given)),
@@ -268,6 +269,40 @@ fn follow_of<'w>(
         checkpoint: text_if(given, "checkpoint"),
         save_to: text(given, "save-to"),
     })
+}
+
+/// None where a portion that was given is none.
+fn live_words<'w>(alloc: Global, given: &ArgMatches<'w>) -> Option<Result<Words<'w>, AllocError>>
+    ensures { Asks result (live_subcommand.meaning (rows_of (found_of given.now))) }
+{
+    let portions = given_portions(given)?;
+    Some(live_words_by(alloc, given, portions))
+}
+
+/// The same with these portions. An error is want of memory.
+fn live_words_by<'w>(
+    alloc: Global,
+    given: &ArgMatches<'w>,
+    portions: Portions,
+) -> Result<Words<'w>, AllocError>
+    ensures { IfOk result (λ words. value_of_words words ≡ asks_live (live_given (rows_of (found_of given.now)) (portions_value portions))) }
+{
+    let feeds = texts(alloc, given, "feed")?;
+    Ok(Words::Live(live_of(given, portions, feeds)))
+}
+
+/// What is given to `live`, with these portions and feeds.
+fn live_of<'w>(given: &ArgMatches<'w>, portions: Portions, feeds: Vec<&'w str>) -> Live<'w>
+    ensures { live_value result ≡ record (live_given (rows_of (found_of given.now)) (portions_value portions)) { feeds = map (λ name. name.now) feeds.entry.items } }
+{
+    Live {
+        threading: threading_given(given),
+        portions,
+        checkpoint: text_if(given, "checkpoint"),
+        save_to: text_if(given, "save-to"),
+        workflow: text(given, "workflow"),
+        feeds,
+    }
 }
 
 /// None where the stream that was given is none.

@@ -20,6 +20,8 @@ pub enum Words<'w> {
     Join(Join<'w>),
     /// `follow`: move a checkpoint on to the feeds' ends.
     Follow(Follow<'w>),
+    /// `live`: answer requests over a target that goes on with its feeds.
+    Live(Live<'w>),
     /// `vdiff`: compare two dumps.
     Vdiff(Vdiff<'w>),
     /// `compact`: put one group in the place of a feed's first ones.
@@ -90,6 +92,23 @@ pub struct Follow<'w> {
     pub checkpoint: Option<&'w str>,
     /// The file that the new checkpoint takes the place of.
     pub save_to: &'w str,
+}
+
+/// The words of `live`.
+#[derive(Drop)]
+pub struct Live<'w> {
+    /// How the streams run.
+    pub threading: Threading,
+    /// In what portions they run.
+    pub portions: Portions,
+    /// The file of the checkpoint to go on from, where there is one.
+    pub checkpoint: Option<&'w str>,
+    /// The file that checkpoints take the place of, where there is one.
+    pub save_to: Option<&'w str>,
+    /// The workflow's file.
+    pub workflow: &'w str,
+    /// The feeds' files.
+    pub feeds: Vec<&'w str>,
 }
 
 /// The words of `resume`.

@@ -1,0 +1,2 @@
+-- What serves the crate's own code alone.
+pub mod Starting

@@ -1,0 +1,11 @@
+use Rattle.std.proofs.Common.{◌≡◌, ◌*◌, ◌^◌, ◌≤◌, length}
+use Rattle.live_session.specs.Growths.{HaveCome}
+use Rattle.live_session.proofs.growth.growth.Given as goal
+
+-- so many bytes have come of the feeds so far
+abbrev pub invariant-loop-s : goal.invariant-loop-s
+invariant-loop-s g l = record {
+  come : HaveCome l.bytes l.fn.live l.live;
+  count : length l.seats ≡ length l.fn.seats;
+  few : l.bytes ≤ l.s * 2 ^ 32;
+}

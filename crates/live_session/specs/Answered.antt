@@ -1,0 +1,163 @@
+-- What each request is answered, and what it leaves (this profile).
+use Rattle.std.specs.Prelude.{◌≡◌, ◌⊎◌, ℕ, List, [], length, Bool, Option, None, Some, MatchOption, IsSomeAnd, Result, Ok, Err, slice_get}
+use Rattle.filter_rule.specs.PlanValue.{PlanValue, table_of_name}
+use Rattle.pk_copy.specs.KeyOrder.{key_cmp}
+use Rattle.pk_copy.specs.KeyValue.{KeyValue}
+use Rattle.target_tables.specs.Contents.{value_at}
+use Rattle.board_laws.specs.Meaning.{Meaning, TargetRows}
+use Rattle.board_laws.specs.declared.step_refusal.StepRefusal.{StepRefusal}
+use Rattle.checkpoint_laws.specs.Written.{checkpoint_of}
+use Rattle.printing.specs.Printing.{Prints, Written}
+use Rattle.change_laws.specs.Changes.{LeadOn, changes_in}
+use Rattle.change_laws.specs.Since.{HasMoved}
+use Rattle.change_laws.specs.declared.changed_keys.ChangedKeys.{ChangedKeys}
+use Rattle.live_core.specs.Live.{LiveValue, AreCounted, HaveEndedAs, IsToldExactly, told_rows}
+use Rattle.live_json.specs.Answers.{StreamValue, TableCounts, ok_line, refused_line, more_data, state_data, changes_data, told_data, page_data, standing_data, counts_data, saved_data, nothing_data}
+use Rattle.live_requests.specs.Named.{IsKeyText}
+use Rattle.live_requests.specs.Requests as asked
+use Rattle.live_requests.specs.Requests.{Asked}
+use Rattle.live_session.specs.Counts.{AreAllCounts}
+use Rattle.live_session.specs.Growths.{HaveCome}
+use Rattle.live_session.specs.Pages.{page_of}
+use Rattle.live_session.specs.Sessions.{SessionValue, AreTold, first_plan}
+use Rattle.live_session.specs.Stops.{known_refusal, number_of_save}
+use Rattle.live_session.specs.declared.arrivals.SaveFault.{SaveFault}
+use Rattle.live_session.specs.declared.seat.Seat.{Seat}
+
+-- the line of a refusal of which only the number is told, with what it means
+abbrev pub refusal_line : ℕ → List ℕ
+refusal_line number = refused_line (known_refusal number)
+
+-- ---- more
+
+-- what each stream answered is noted in its seat
+abbrev pub noted : Result Bool StepRefusal → Option StepRefusal
+noted (Ok all) = None
+noted (Err refusal) = Some refusal
+
+pub record AreNoted (answers : List (Result Bool StepRefusal)) (seats : List Seat) : Type 0 where
+  pub count : length seats ≡ length answers
+  pub each : (s : ℕ) (answer : Result Bool StepRefusal) (seat : Seat) → slice_get answers s ≡ Some answer → slice_get seats s ≡ Some seat → seat.step ≡ noted answer
+
+-- The feeds have grown by so many bytes, and then the streams have taken a list of steps that read groups and apply them.
+-- Nothing was told.
+pub record HasGone (bytes : ℕ) (old new : LiveValue) : Type 0 where
+  pub between : LiveValue
+  pub come : HaveCome bytes old between
+  pub feeds : new.fed.feeds ≡ between.fed.feeds
+  pub known : new.bytes ≡ between.bytes
+  pub told : new.told ≡ between.told
+  pub moved : HasMoved between.fed.feeds between.fed.board new.fed.board
+
+-- The streams have gone on, each up to its feed's end or a refusal, which is noted, or as far as was asked. Told are how many
+-- bytes and changes there are, and where the streams stand.
+pub record IsMore (old new : SessionValue) (text : List ℕ) : Type 0 where
+  pub bytes : ℕ
+  pub gone : HasGone bytes old.live new.live
+  pub answers : List (Result Bool StepRefusal)
+  pub ended : HaveEndedAs answers new.live.fed.feeds new.live.fed.board
+  pub noted : AreNoted answers new.seats
+  pub changes : ℕ
+  pub counted : AreCounted changes new.live.told new.live.fed.board
+  pub streams : List StreamValue
+  pub stand : AreTold new streams
+  pub line : text ≡ ok_line (more_data bytes changes streams)
+
+-- ---- what is told of a board
+
+pub record IsState (session : SessionValue) (text : List ℕ) : Type 0 where
+  pub streams : List StreamValue
+  pub stand : AreTold session streams
+  pub line : text ≡ ok_line (state_data streams)
+
+-- told is then the board as it stands, and nothing else has changed
+pub record HasTold (old new : SessionValue) : Type 0 where
+  pub fed : new.live.fed ≡ old.live.fed
+  pub bytes : new.live.bytes ≡ old.live.bytes
+  pub seats : new.seats ≡ old.seats
+  pub told : new.live.told ≡ Some old.live.fed.board
+
+-- what changed since the board that was told: who makes the changes to its rows has the rows of this one
+pub record IsChanges (session : SessionValue) (text : List ℕ) : Type 0 where
+  pub plan : PlanValue
+  pub first : first_plan session.live ≡ Some plan
+  pub changed : ChangedKeys
+  pub lead : LeadOn (told_rows session.live.told) (changes_in session.live.fed.board.rows changed) session.live.fed.board.rows
+  pub exact : IsToldExactly session.live.told session.live.fed.board changed
+  pub streams : List StreamValue
+  pub stand : AreTold session streams
+  pub line : text ≡ ok_line (changes_data plan.tables (changes_in session.live.fed.board.rows changed) streams)
+
+-- how many these are
+pub record IsToldCount (session : SessionValue) (text : List ℕ) : Type 0 where
+  pub changes : ℕ
+  pub counted : AreCounted changes session.live.told session.live.fed.board
+  pub streams : List StreamValue
+  pub stand : AreTold session streams
+  pub line : text ≡ ok_line (told_data changes streams)
+
+-- ---- rows
+
+-- what a key's text names is answered, or 126 where it names none
+abbrev pub IsKeyed : PlanValue → ℕ → List ℕ → (KeyValue → List ℕ) → List ℕ → Type 0
+IsKeyed plan t said answer text = ((key : KeyValue) × IsKeyText plan t said key × (text ≡ answer key)) ⊎ (((key : KeyValue) → ¬ IsKeyText plan t said key) × (text ≡ refusal_line 126))
+
+abbrev pub page_line : TargetRows → ℕ → KeyValue → List ℕ
+page_line rows most from = ok_line (page_data (page_of rows from most))
+
+-- from the key that is said on, or from the first
+abbrev pub IsPage : PlanValue → TargetRows → ℕ → ℕ → Option (List ℕ) → List ℕ → Type 0
+IsPage plan rows t most None text = text ≡ page_line rows most (record { table = t; parts = [] })
+IsPage plan rows t most (Some said) text = IsKeyed plan t said (page_line rows most) text
+
+-- 125 where there is no such table
+abbrev pub IsRows : TargetRows → List ℕ → ℕ → Option (List ℕ) → List ℕ → PlanValue → Type 0
+IsRows rows table most from text plan = MatchOption (table_of_name plan table) (text ≡ refusal_line 125) (λ t. IsPage plan rows t most from text)
+
+abbrev pub row_line : TargetRows → KeyValue → List ℕ
+row_line rows key = ok_line (standing_data (value_at key_cmp rows key))
+
+abbrev pub IsRow : TargetRows → List ℕ → List ℕ → List ℕ → PlanValue → Type 0
+IsRow rows table said text plan = MatchOption (table_of_name plan table) (text ≡ refusal_line 125) (λ t. IsKeyed plan t said (row_line rows) text)
+
+pub record IsCounts (rows : TargetRows) (streams : ℕ) (text : List ℕ) (plan : PlanValue) : Type 0 where
+  pub all : List TableCounts
+  pub counted : AreAllCounts rows plan.tables streams all
+  pub line : text ≡ ok_line (counts_data all)
+
+-- ---- save
+
+-- the bytes of the board's checkpoint are told, or why it isn't kept
+abbrev pub IsSaved : Meaning → List ℕ → Type 0
+IsSaved board text = (text ≡ ok_line (saved_data (length (checkpoint_of board)))) ⊎ ((fault : SaveFault) × (text ≡ refusal_line (number_of_save fault)))
+
+-- ---- all
+
+-- what a request is answered, and what it leaves
+abbrev pub IsAnsweredAs : Asked → SessionValue → List ℕ → SessionValue → Type 0
+IsAnsweredAs (asked.more groups) old text new = IsMore old new text
+IsAnsweredAs asked.state old text new = (new ≡ old) × IsState old text
+IsAnsweredAs asked.changes old text new = HasTold old new × IsChanges old text
+IsAnsweredAs asked.told old text new = HasTold old new × IsToldCount old text
+IsAnsweredAs (asked.rows table most from) old text new = (new ≡ old) × IsSomeAnd (first_plan old.live) (IsRows old.live.fed.board.rows table most from text)
+IsAnsweredAs (asked.row table key) old text new = (new ≡ old) × IsSomeAnd (first_plan old.live) (IsRow old.live.fed.board.rows table key text)
+IsAnsweredAs asked.counts old text new = (new ≡ old) × IsSomeAnd (first_plan old.live) (IsCounts old.live.fed.board.rows (length old.live.fed.board.streams) text)
+IsAnsweredAs asked.save old text new = (new ≡ old) × IsSaved old.live.fed.board text
+IsAnsweredAs asked.last old text new = (new ≡ old) × (text ≡ ok_line nothing_data)
+
+-- want of memory leaves all as it was, but for what `more` has done
+abbrev pub IsLeft : Asked → SessionValue → SessionValue → Type 0
+IsLeft (asked.more groups) old new = (bytes : ℕ) × HasGone bytes old.live new.live
+IsLeft request old new = new ≡ old
+
+-- A request is answered so, or 72; and 124 is the answer to a line that is none.
+abbrev pub IsAnswer : Option Asked → SessionValue → List ℕ → SessionValue → Type 0
+IsAnswer None old text new = (new ≡ old) × (text ≡ refusal_line 124)
+IsAnswer (Some request) old text new = IsAnsweredAs request old text new ⊎ (IsLeft request old new × (text ≡ refusal_line 72))
+
+-- ---- what a call that answers leaves on its output
+
+-- a text of this kind was printed, or there was want of memory and nothing was
+abbrev pub Answers : {X E F : Type 0} → (List ℕ → Type 0) → Result (Result X E) F → Written → Written → Type 0
+Answers Is (Ok printed) old new = (text : List ℕ) × Is text × Prints printed old new text
+Answers Is (Err _) old new = new ≡ old

@@ -1,0 +1,105 @@
+-- What the command `live` does (this profile).
+use Rattle.std.specs.Prelude.{◌≡◌, ◌⊎◌, ℕ, List, [], Option, codes, map, option_map}
+use Rattle.printing.specs.Printing.{Written}
+use Rattle.vrepl_main.specs.declared.following.Unfollowed.{Unfollowed}
+use Rattle.vrepl_main.specs.declared.following.Unfollowed.TheVariants as unfollowed
+use Rattle.vrepl_main.specs.declared.refusal.CommandRefusal.TheVariants as command
+use Rattle.vrepl_main.specs.Command.{Ends}
+use Rattle.vrepl_main.specs.Followed.{follow_refusal_line}
+use Rattle.vrepl_main.specs.Printing.{PrintsOrBreaks}
+use Rattle.vrepl_main.specs.RefusalLine.{line_of}
+use Rattle.live_core.specs.Live.{LiveValue}
+use Rattle.live_opening.specs.Opened.{IsOpened, IsUnopened}
+use Rattle.live_opening.specs.declared.unopened.Unopened.{Unopened}
+use Rattle.live_opening.specs.declared.unopened.Unopened.TheVariants.{Workflow, FeedCount, Feed, Checkpoint, Stream}
+use Rattle.live_session.specs.Sessions.{SessionValue}
+use Rattle.live_session.specs.Turns.{IsServed, number_of_serve, stand_of}
+use Rattle.live_session.specs.declared.serve.ServeFault.{ServeFault}
+use Rattle.live_session.specs.declared.serve.ServeFault.TheVariants as serve
+use Rattle.vrepl_live.specs.declared.living.LiveInputs.{LiveInputs}
+
+-- ---- the board
+
+-- what has come of the feeds
+abbrev pub come_of : LiveInputs → List (List ℕ)
+come_of inputs = map (λ bytes. bytes.items) inputs.feeds.now
+
+-- the checkpoint to go on from, where there is one
+abbrev pub saved_of : LiveInputs → Option (List ℕ)
+saved_of inputs = option_map (λ bytes. bytes.now) inputs.checkpoint
+
+abbrev pub IsOpenedBy : LiveInputs → LiveValue → Type 0
+IsOpenedBy inputs live = IsOpened inputs.workflow.now (come_of inputs) (saved_of inputs) live
+
+abbrev pub IsUnopenedBy : LiveInputs → Unopened → Type 0
+IsUnopenedBy inputs refusal = IsUnopened inputs.workflow.now (come_of inputs) (saved_of inputs) refusal
+
+-- ---- the lines of refusals
+
+-- why there is no board to start from, as `follow` refuses it
+abbrev pub as_unfollowed : Unopened → Unfollowed
+as_unfollowed (Workflow fault) = unfollowed.Given (command.Workflow fault)
+as_unfollowed FeedCount = unfollowed.Given command.FeedCount
+as_unfollowed (Feed fault) = unfollowed.Given (command.Feed fault)
+as_unfollowed (Checkpoint plan fault) = unfollowed.Checkpoint plan fault
+as_unfollowed (Stream plan refusal) = unfollowed.Stream plan refusal
+
+abbrev pub unopened_line : Unopened → List ℕ
+unopened_line refusal = follow_refusal_line (as_unfollowed refusal)
+
+-- what stands behind the number where a session is broken off: the file `-`, whose requests can't be read or which takes no
+-- answer
+abbrev pub broken_details : ServeFault → List ℕ
+broken_details serve.CannotRead = codes " file -"
+broken_details serve.CannotWrite = codes " file -"
+broken_details serve.Memory = []
+
+abbrev pub broken_line : ServeFault → List ℕ
+broken_line fault = line_of (number_of_serve fault) (broken_details fault)
+
+-- ---- the session
+
+-- what is left of the input, as far as it is known, and what the two writers have taken: that of the answers, and that of a
+-- refusal's line
+pub record Outside : Type 0 where
+  pub input : Option (List ℕ)
+  pub answers : Written
+  pub refusals : Written
+
+abbrev pub outside : Option (List ℕ) → Written → Written → Outside
+outside input answers refusals = record { input = input; answers = answers; refusals = refusals }
+
+-- From this board a session was served: its requests were answered in order, until `end` or the input's end.
+pub record HasServed (live : LiveValue) (input : Option (List ℕ)) (written : Written) (input_left : Option (List ℕ)) (written_then : Written) : Type 0 where
+  pub start : SessionValue
+  pub of_board : start.live ≡ live
+  pub end : SessionValue
+  pub served : IsServed (stand_of input start written) (stand_of input_left end written_then)
+
+-- the same from the board that the inputs make
+pub record HasLived (inputs : LiveInputs) (old new : Outside) : Type 0 where
+  pub live : LiveValue
+  pub opened : IsOpenedBy inputs live
+  pub served : HasServed live old.input old.answers new.input new.answers
+
+-- There is no board to start from, and the line says why. Nothing was read, and nothing answered.
+pub record HasNotBegun (inputs : LiveInputs) (old new : Outside) : Type 0 where
+  pub unopened : Unopened
+  pub why : IsUnopenedBy inputs unopened
+  pub input : new.input ≡ old.input
+  pub answers : new.answers ≡ old.answers
+  pub line : PrintsOrBreaks old.refusals new.refusals (unopened_line unopened)
+
+-- From the board that the inputs make a session was begun, and broken off: the line says why.
+pub record HasBrokenOff (inputs : LiveInputs) (old new : Outside) : Type 0 where
+  pub live : LiveValue
+  pub opened : IsOpenedBy inputs live
+  pub fault : ServeFault
+  pub line : PrintsOrBreaks old.refusals new.refusals (broken_line fault)
+
+abbrev pub HasRefused : LiveInputs → Outside → Outside → Type 0
+HasRefused inputs old new = HasNotBegun inputs old new ⊎ HasBrokenOff inputs old new
+
+-- how `live` ends
+abbrev pub LiveEnds : LiveInputs → ℕ → Outside → Outside → Type 0
+LiveEnds inputs status old new = Ends status (HasLived inputs old new) ⊥ (HasRefused inputs old new)

@@ -1,0 +1,89 @@
+//! The subcommand `live`.
+
+ghost use Rattle.std.specs.Prelude.{◌≡◌, ◌≤◌, IfOk, IfErr, OnOk};
+ghost use Rattle.vrepl_live.specs.Living.{HasServed, IsOpenedBy, IsUnopenedBy, LiveEnds, outside};
+
+use crate::refusing::{as_unfollowed, fault_refusal};
+use apply_core::Policy;
+use live_core::Live;
+use live_opening::{Unopened, open};
+use live_session::{Arrivals, ServeFault, Session};
+use printing::Out;
+use std::alloc::Global;
+use std::io::Read;
+use std::sync::Wait;
+use vrepl_main::{refuse, refuse_unfollowed};
+
+/// What a session starts from.
+#[derive(Clone, Copy)]
+pub struct LiveInputs<'h> {
+    /// In what portions the streams read and copy on their way to what has come.
+    pub policy: Policy,
+    /// The checkpoint to go on from, where there is one.
+    pub checkpoint: Option<&'h [u8]>,
+    /// The workflow file.
+    pub workflow: &'h [u8],
+    /// What has come of each stream's feed.
+    pub feeds: &'h [Vec<u8>],
+}
+
+/// The board at the ends of what has come.
+fn open_board<'h>(alloc: Global, inputs: &LiveInputs<'h>) -> Result<Live<'h>, Unopened>
+    ensures opened { IfOk result (IsOpenedBy inputs.now) }
+    ensures refused { IfErr result (IsUnopenedBy inputs.now) }
+{
+    open(
+        alloc,
+        &inputs.policy,
+        inputs.workflow,
+        inputs.checkpoint,
+        inputs.feeds,
+    )
+}
+
+/// Serves a session over a board, of whose feeds these bytes had come.
+fn serve_over<'h, R: Wait, A: Arrivals<'h>, I: Read, W: Out>(
+    rt: &R,
+    alloc: Global,
+    live: Live<'h>,
+    come: &[Vec<u8>],
+    arrivals: &mut A,
+    input: &mut I,
+    out: &mut W,
+) -> Result<(), ServeFault>
+    ensures served { OnOk result (HasServed live.entry (I.remaining input.old) (W.written out.old) (I.remaining input.new) (W.written out.new)) }
+{
+    let Ok(mut session) = Session::new(alloc, live, come) else {
+        return Err(ServeFault::Memory);
+    };
+    session.serve(rt, alloc, arrivals, input, out)
+}
+
+/// Opens a workflow with what has come of its feeds, or goes on from a checkpoint, as `follow` does, and then answers the
+/// requests of an input on `out`, a line each, until `end` or the input's end. Or prints the line of a refusal on `err`: as
+/// `follow` refuses, and then nothing is read or answered; or 131 where a request can't be read, 132 where an answer can't
+/// be written, of the file `-`, or 72 for want of memory. Answers the status: 0, or 1 behind a refusal.
+/// May wait for ever: an input may give nothing.
+pub fn live<'h, R: Wait, A: Arrivals<'h>, I: Read, W: Out, E: Out>(
+    rt: &R,
+    alloc: Global,
+    inputs: &LiveInputs<'h>,
+    arrivals: &mut A,
+    input: &mut I,
+    out: &mut W,
+    err: &mut E,
+) -> u8
+    ensures status { result ≤ 1 }
+    // With status 0 each line of the input was answered, in order, from the board that the inputs make on.
+    ensures ends { LiveEnds inputs.now result (outside (I.remaining input.old) (W.written out.old) (E.written err.old)) (outside (I.remaining input.new) (W.written out.new) (E.written err.new)) }
+    ensures quiet { result ≡ 0 → err.new ≡ err.old }
+{
+    let board = match open_board(alloc, inputs) {
+        Ok(board) => board,
+        Err(unopened) => return refuse_unfollowed(err, as_unfollowed(unopened)),
+    };
+    match serve_over(rt, alloc, board, inputs.feeds, arrivals, input, out) {
+        Ok(()) => 0,
+        Err(fault) => refuse(err, &fault_refusal(fault)),
+    }
+}
