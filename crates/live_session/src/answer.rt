@@ -6,7 +6,7 @@ ghost use Rattle.board_laws.specs.FedBoards.{IsFedBoard};
 ghost use Rattle.live_core.specs.Live.{IsLive};
 ghost use Rattle.live_requests.specs.Requests.{request_value};
 ghost use Rattle.live_session.specs.Answered.{Answers, HasGone, IsAnswer, IsAnsweredAs, IsLeft, IsMore};
-ghost use Rattle.live_session.specs.Sessions.{session_of};
+ghost use Rattle.live_session.specs.Sessions.{kept_session, session_of};
 
 use crate::applying::note;
 use crate::arrivals::Arrivals;
@@ -21,12 +21,15 @@ use live_requests::Request;
 use printing::{Out, OutFailed};
 use std::alloc::{AllocError, Global};
 use std::sync::Wait;
+use std::thread::Threads;
+use vrepl_choices::Threading;
 
 /// The feeds grow by what has come, the streams apply up to so many groups each, and it is told where they stand then. After
 /// an error what was done stays.
-fn go_on<'h, R: Wait, A: Arrivals<'h>, O: Out>(
+fn go_on<'h, R: Threads + Wait + Sync, A: Arrivals<'h>, O: Out>(
     rt: &R,
     alloc: Global,
+    threading: Threading,
     live: &mut Live<'h>,
     seats: &mut [Seat<'h>],
     arrivals: &mut A,
@@ -34,13 +37,14 @@ fn go_on<'h, R: Wait, A: Arrivals<'h>, O: Out>(
     out: &mut O,
 ) -> Result<Result<(), OutFailed>, AllocError>
     requires { length seats.old ≡ length live.old.fed.feeds }
-    ensures answer { Answers (IsMore (session_of live.old seats.old) (session_of live.new seats.new)) result (O.written out.old) (O.written out.new) }
-    ensures gone { (bytes : ℕ) × HasGone bytes live.old live.new }
+    ensures answer { Answers (IsMore most (session_of live.old seats.old) (session_of live.new seats.new)) result (O.written out.old) (O.written out.new) }
+    ensures gone { (bytes : ℕ) × HasGone most bytes live.old live.new }
+    ensures saved { A.saved arrivals.new ≡ A.saved arrivals.old }
     ensures seats { length seats.new ≡ length live.new.fed.feeds }
 {
     live.fed().is_fed();
     let bytes = growth(rt, alloc, live, seats, arrivals);
-    let answers = live.more(alloc, most)?;
+    let answers = live.more(rt, alloc, threading, most)?;
     note(seats, answers);
     let changes = live.count(alloc)?;
     let streams = streams_of(alloc, live, seats)?;
@@ -48,9 +52,10 @@ fn go_on<'h, R: Wait, A: Arrivals<'h>, O: Out>(
 }
 
 /// What a request is answered. An error is want of memory.
-fn answer_to<'h, R: Wait, A: Arrivals<'h>, O: Out>(
+fn answer_to<'h, R: Threads + Wait + Sync, A: Arrivals<'h>, O: Out>(
     rt: &R,
     alloc: Global,
+    threading: Threading,
     live: &mut Live<'h>,
     seats: &mut [Seat<'h>],
     arrivals: &mut A,
@@ -58,14 +63,14 @@ fn answer_to<'h, R: Wait, A: Arrivals<'h>, O: Out>(
     out: &mut O,
 ) -> Result<Result<(), OutFailed>, AllocError>
     requires { length seats.old ≡ length live.old.fed.feeds }
-    ensures answer { Answers (λ text. IsAnsweredAs (request_value request.entry) (session_of live.old seats.old) text (session_of live.new seats.new)) result (O.written out.old) (O.written out.new) }
-    ensures left { OnErr result (IsLeft (request_value request.entry) (session_of live.old seats.old) (session_of live.new seats.new)) }
+    ensures answer { Answers (λ text. IsAnsweredAs (request_value request.entry) (kept_session (session_of live.old seats.old) (A.saved arrivals.old)) text (kept_session (session_of live.new seats.new) (A.saved arrivals.new))) result (O.written out.old) (O.written out.new) }
+    ensures left { OnErr result (IsLeft (request_value request.entry) (kept_session (session_of live.old seats.old) (A.saved arrivals.old)) (kept_session (session_of live.new seats.new) (A.saved arrivals.new))) }
     ensures seats { length seats.new ≡ length live.new.fed.feeds }
 {
     match request {
         Request::More { groups } => {
             let most = groups.unwrap_or(u32::MAX);
-            go_on(rt, alloc, live, seats, arrivals, most, out)
+            go_on(rt, alloc, threading, live, seats, arrivals, most, out)
         }
         Request::State => tell_state(alloc, live, seats, out),
         Request::Changes => tell_changes(alloc, live, seats, out),
@@ -85,9 +90,10 @@ fn answer_to<'h, R: Wait, A: Arrivals<'h>, O: Out>(
 }
 
 /// What a request is answered, or 72 for want of memory.
-fn answer_or_refuse<'h, R: Wait, A: Arrivals<'h>, O: Out>(
+fn answer_or_refuse<'h, R: Threads + Wait + Sync, A: Arrivals<'h>, O: Out>(
     rt: &R,
     alloc: Global,
+    threading: Threading,
     live: &mut Live<'h>,
     seats: &mut [Seat<'h>],
     arrivals: &mut A,
@@ -95,19 +101,20 @@ fn answer_or_refuse<'h, R: Wait, A: Arrivals<'h>, O: Out>(
     out: &mut O,
 ) -> Result<(), OutFailed>
     requires { length seats.old ≡ length live.old.fed.feeds }
-    ensures answer { (text : List ℕ) × IsAnswer (Some (request_value request.entry)) (session_of live.old seats.old) text (session_of live.new seats.new) × Prints result (O.written out.old) (O.written out.new) text }
+    ensures answer { (text : List ℕ) × IsAnswer (Some (request_value request.entry)) (kept_session (session_of live.old seats.old) (A.saved arrivals.old)) text (kept_session (session_of live.new seats.new) (A.saved arrivals.new)) × Prints result (O.written out.old) (O.written out.new) text }
     ensures seats { length seats.new ≡ length live.new.fed.feeds }
 {
-    match answer_to(rt, alloc, live, seats, arrivals, request, out) {
+    match answer_to(rt, alloc, threading, live, seats, arrivals, request, out) {
         Ok(printed) => printed,
         Err(_) => refuse(out, 72),
     }
 }
 
 /// What a line is answered, that asks for something or for nothing.
-fn answer_line<'h, R: Wait, A: Arrivals<'h>, O: Out>(
+fn answer_line<'h, R: Threads + Wait + Sync, A: Arrivals<'h>, O: Out>(
     rt: &R,
     alloc: Global,
+    threading: Threading,
     live: &mut Live<'h>,
     seats: &mut [Seat<'h>],
     arrivals: &mut A,
@@ -115,19 +122,22 @@ fn answer_line<'h, R: Wait, A: Arrivals<'h>, O: Out>(
     out: &mut O,
 ) -> Result<(), OutFailed>
     requires { length seats.old ≡ length live.old.fed.feeds }
-    ensures answer { (text : List ℕ) × IsAnswer (option_map request_value request.entry) (session_of live.old seats.old) text (session_of live.new seats.new) × Prints result (O.written out.old) (O.written out.new) text }
+    ensures answer { (text : List ℕ) × IsAnswer (option_map request_value request.entry) (kept_session (session_of live.old seats.old) (A.saved arrivals.old)) text (kept_session (session_of live.new seats.new) (A.saved arrivals.new)) × Prints result (O.written out.old) (O.written out.new) text }
     ensures seats { length seats.new ≡ length live.new.fed.feeds }
 {
     match request {
         None => refuse(out, 124),
-        Some(request) => answer_or_refuse(rt, alloc, live, seats, arrivals, request, out),
+        Some(request) => answer_or_refuse(
+            rt, alloc, threading, live, seats, arrivals, request, out,
+        ),
     }
 }
 
 /// The same. An error is of the output.
-pub(crate) fn answer<'h, R: Wait, A: Arrivals<'h>, O: Out>(
+pub(crate) fn answer<'h, R: Threads + Wait + Sync, A: Arrivals<'h>, O: Out>(
     rt: &R,
     alloc: Global,
+    threading: Threading,
     live: &mut Live<'h>,
     seats: &mut [Seat<'h>],
     arrivals: &mut A,
@@ -135,13 +145,13 @@ pub(crate) fn answer<'h, R: Wait, A: Arrivals<'h>, O: Out>(
     out: &mut O,
 ) -> Result<(), OutFailed>
     requires { length seats.old ≡ length live.old.fed.feeds }
-    ensures answer { (text : List ℕ) × IsAnswer (option_map request_value request.entry) (session_of live.old seats.old) text (session_of live.new seats.new) × Prints result (O.written out.old) (O.written out.new) text }
+    ensures answer { (text : List ℕ) × IsAnswer (option_map request_value request.entry) (kept_session (session_of live.old seats.old) (A.saved arrivals.old)) text (kept_session (session_of live.new seats.new) (A.saved arrivals.new)) × Prints result (O.written out.old) (O.written out.new) text }
     ensures seats { length seats.new ≡ length live.new.fed.feeds }
     // The board that is told of is lawful, and shows its sources.
     ensures live { IsLive live.new }
     ensures fed { IsFedBoard live.new.fed.feeds live.new.fed.board }
 {
-    let printed = answer_line(rt, alloc, live, seats, arrivals, request, out);
+    let printed = answer_line(rt, alloc, threading, live, seats, arrivals, request, out);
     live.fed().is_fed();
     printed
 }

@@ -1,7 +1,7 @@
 //! Feeds that grow by what has come.
 
-ghost use Rattle.std.specs.Prelude.{◌≡◌, ◌≤◌, length};
-ghost use Rattle.live_session.specs.Growths.{HaveCome};
+ghost use Rattle.std.specs.Prelude.{◌≡◌, ◌≢◌, ◌<◌, ◌≤◌, ℕ, length};
+ghost use Rattle.live_session.specs.Growths.{HasGrown, HaveCome, HaveGrown, IsNoted, IsStill, is_closed};
 
 use crate::arrivals::{ArrivalFault, Arrivals, Arrived};
 use crate::seat::{Seat, Stopped};
@@ -18,7 +18,9 @@ fn next_arrived<'h, R: Wait, A: Arrivals<'h>>(
     arrivals: &mut A,
     s: u8,
     taken: u64,
-) -> Result<Arrived<'h>, ArrivalFault> {
+) -> Result<Arrived<'h>, ArrivalFault>
+    ensures { A.saved arrivals.new ≡ A.saved arrivals.old }
+{
     match seat.kept {
         Some(arrived) => {
             seat.kept = None;
@@ -36,7 +38,9 @@ fn grow_by<'h>(
     s: u8,
     arrived: Arrived<'h>,
 ) -> u32
-    ensures { HaveCome result live.old live.new }
+    requires { s < length live.old.bytes }
+    ensures come { HaveCome result live.old live.new }
+    ensures noted { IsNoted s arrived.entry.piece.now result seat.new.stopped live.old live.new }
 {
     let come = arrived.piece.len() as u64;
     seat.tail = come.saturating_add(arrived.waiting);
@@ -60,6 +64,7 @@ fn grow_by<'h>(
 }
 
 /// The feed of stream `s` grows by what has come, unless it doesn't grow any more: how many bytes are taken.
+#[tactic(auto, using(crate::proofs::GrowthLaws::come_none, crate::proofs::GrowthLaws::asked_by, crate::proofs::GrowthLaws::asked_in_vain, crate::proofs::GrowthLaws::grown_closed, crate::proofs::GrowthLaws::grown_asked, crate::proofs::GrowthLaws::others_same, crate::proofs::GrowthLaws::others_noted))]
 fn grow_one<'h, R: Wait, A: Arrivals<'h>>(
     rt: &R,
     alloc: Global,
@@ -68,7 +73,12 @@ fn grow_one<'h, R: Wait, A: Arrivals<'h>>(
     arrivals: &mut A,
     s: u8,
 ) -> u32
-    ensures { HaveCome result live.old live.new }
+    requires { s < length live.old.fed.feeds }
+    ensures come { HaveCome result live.old live.new }
+    // A feed that doesn't grow any more is left as it is, and so are the others.
+    ensures grown { HasGrown (is_closed seat.old) s seat.old seat.new live.old live.new }
+    ensures others { (t : ℕ) → t ≢ s → IsStill t live.old live.new }
+    ensures saved { A.saved arrivals.new ≡ A.saved arrivals.old }
 {
     if seat.is_closed() {
         return 0;
@@ -97,8 +107,12 @@ pub(crate) fn growth<'h, R: Wait, A: Arrivals<'h>>(
     arrivals: &mut A,
 ) -> u64
     requires few { length seats.old ≤ 64 }
+    requires count { length seats.old ≡ length live.old.fed.feeds }
     ensures come { HaveCome result live.old live.new }
     ensures seats { length seats.new ≡ length seats.old }
+    ensures saved { A.saved arrivals.new ≡ A.saved arrivals.old }
+    // Why a feed hasn't grown is in its seat.
+    ensures grown { HaveGrown seats.old seats.new live.old live.new }
 {
     let mut bytes = 0;
     for s in 0..seats.len() {
