@@ -8,10 +8,12 @@ The parts are
     shapes         logs of six shapes, some N megabytes each (24), in two files: the whole feed, and what is behind the feed of the first
                    file (`--after`), beside mariadb-binlog -v and -vv, and record/feed, which reads the log from its server
     transactions   the most memory for logs of 1, 10 and 100 MB: in one transaction, in small ones, and these in files of a megabyte
-    instructions   counted by `valgrind --tool=callgrind` over 2 MB of each shape; of the first one those of each crate, and of the functions
-                   that take most, without those that they call
+    seconds        where they go, sampled by `perf record -e cpu-clock` over half of each of these logs: the functions that take most, without
+                   those that they call
+    instructions   counted by `valgrind --tool=callgrind` over 2 MB of each shape; of the first one those of each crate, and of
+                   the functions that take most
 
-and without one all of them. Seconds are the processor's, those of the system among them, the least of N rounds (3) in which the commands
+and without one all of them. Seconds are the processor's, those of the system among them, the least of N rounds (2) in which the commands
 come in turns; memory is the most of all rounds. A megabyte has 10^6 bytes, and those of a second are the log's. A private server in a
 temporary folder writes the logs; what the commands print goes nowhere. What is printed here is in lines for README.md beside this.
 """
@@ -233,7 +235,26 @@ def instructions(server: Server, said: argparse.Namespace) -> None:
             line(name, f"{count / rows:.0f}", f"{100 * count / counts.total():.1f} %")
 
 
-PARTS = {"shapes": shapes, "transactions": transactions, "instructions": instructions}
+def sampled(words: list[str], told: str) -> Counter:
+    """By function the percents of a command's time in it, without what it calls; the system's together."""
+    subprocess.run(["perf", "record", "-q", "-e", "cpu-clock", "-F", "5000", "-o", told, "--", *words], stdout=subprocess.DEVNULL, check=True)
+    text = subprocess.run(["perf", "report", "-i", told, "--no-children", "--stdio", "-s", "symbol"], stdout=subprocess.PIPE, stderr=subprocess.DEVNULL, text=True, check=True).stdout
+    shares = Counter()
+    for share, place, name in re.findall(r"^ +([\d.]+)% +\[(.)\] (\S+)", text, re.MULTILINE):
+        shares["the system" if place == "k" else name] += float(share)
+    return shares
+
+
+def seconds(server: Server, said: argparse.Namespace) -> None:
+    head("Log", "Of the seconds")
+    for name, shape in SHAPES.items():
+        source = Source(server, shape)
+        source.fill(said.mb * 5e5)
+        line(name, ", ".join(f"{one} {share:.0f} %" for one, share in sampled(source.transcribe(said.program), source.path("perf")).most_common(6)))
+
+
+PARTS = {"shapes": shapes, "seconds": seconds, "transactions": transactions, "instructions": instructions}
+TOOLS = {"seconds": "perf", "instructions": "valgrind"}
 
 
 def main() -> int:
@@ -241,7 +262,7 @@ def main() -> int:
     parser.add_argument("--program", default=os.path.join(ROOT, "vrepl"), metavar="VREPL")
     parser.add_argument("--binlog", default="mariadb-binlog", metavar="PROGRAM")
     parser.add_argument("--mb", type=float, default=24)
-    parser.add_argument("--rounds", type=int, default=3)
+    parser.add_argument("--rounds", type=int, default=2)
     parser.add_argument("parts", nargs="*", metavar="PART")
     said = parser.parse_intermixed_args()
     if unknown := [name for name in said.parts if name not in PARTS]:
@@ -252,7 +273,10 @@ def main() -> int:
         signal.signal(number, lambda *_: sys.exit(1))
     with Server() as server:
         for name in said.parts or PARTS:
-            PARTS[name](server, said)
+            if name in TOOLS and not shutil.which(TOOLS[name]):
+                print(f"no program {TOOLS[name]}: {name} is left out", file=sys.stderr)
+            else:
+                PARTS[name](server, said)
     return 0
 
 
