@@ -2,5 +2,4 @@ pub mod KeyLaws
 pub mod TouchedLaws
 pub mod GrowingLaws
 pub mod LiveLaws
-pub mod MovingLaws
 pub mod ToldLaws

@@ -61,6 +61,12 @@ kept-moved moves again feeds old new sources told lawful moved kept =
     by None gone h = tt
     by (Some board) gone h = record { lawful = h.lawful; gone = again board old new h.gone gone }
 
+-- the same by the feeds that there were
+pub kept-further : MovesGoOn → BoardsGoOnAndOn → (feeds list : List FeedValue) (old new : Meaning) (sources : List Source) (told : Option Meaning) → list ≡ feeds → IsLawful old → HasMoved feeds old new
+    → IsKept feeds old sources told → IsKept list new sources told
+kept-further moves again feeds list old new sources told same lawful moved kept =
+    subst (λ (l : List FeedValue). IsKept l new sources told) (sym same) (kept-moved moves again feeds old new sources told lawful moved kept)
+
 -- where it is told
 pub kept-told : BoardsStandStill → (feeds : List FeedValue) (board : Meaning) (sources : List Source) (told : Option Meaning) → IsLawful board → IsKept feeds board sources told → IsKept feeds board sources (Some board)
 kept-told still feeds board sources told lawful kept = record {

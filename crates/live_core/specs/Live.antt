@@ -1,29 +1,27 @@
 -- A board that goes on with its feeds, and what was told of it (this profile).
-use Rattle.std.specs.Prelude.{◌≡◌, ◌↔◌, ◌≤◌, ◌++◌, ℕ, Bool, true, List, [], Option, None, Some, Result, Ok, IfSome, length, map, take, drop, slice_get, slice_set}
+use Rattle.std.specs.Prelude.{◌≡◌, ◌↔◌, ◌≤◌, ◌++◌, ℕ, true, List, [], Option, None, Some, Ok, IfSome, length, map, take, drop, slice_get, slice_set}
 use Rattle.std.specs.List.{list_any}
 use Rattle.std.specs.Option.{option_map_or}
 use Rattle.std.specs.Ordering.{eq_by_cmp}
 use Rattle.pk_copy.specs.KeyOrder.{key_cmp}
 use Rattle.pk_copy.specs.KeyValue.{KeyValue}
-use Rattle.stream_core.specs.declared.phase.Phase.TheVariants.{Running}
-use Rattle.stream_core.specs.Standing.{phase_of}
 use Rattle.source_feed.specs.declared.fault.FeedFault.{FeedFault}
 use Rattle.source_feed.specs.FaultNumber.{meant_of}
 use Rattle.source_feed.specs.Growing.{IsSettledFront, IsRefusedFor, fault_so_far}
 use Rattle.source_feed.specs.Planned.{FeedValue, groups_under}
-use Rattle.board_laws.specs.declared.step_refusal.StepRefusal.{StepRefusal}
 use Rattle.board_laws.specs.FedBoards.{Fed, IsFedBoard}
-use Rattle.board_laws.specs.Lawful.{standing_of, IsLawful}
+use Rattle.board_laws.specs.Lawful.{IsLawful}
 use Rattle.board_laws.specs.Meaning.{State, TargetRows, Meaning}
 use Rattle.board_laws.specs.Sources.{ShowAll}
 use Rattle.apply_core.specs.declared.grow_refusal.GrowRefusal.{GrowRefusal}
 use Rattle.apply_core.specs.declared.grow_refusal.GrowRefusal.TheVariants.{NoStream, Piece}
-use Rattle.apply_core.specs.Ended.{AllHaveEnded, StreamHasEnded}
+use Rattle.apply_core.specs.Ended.{AllHaveEnded}
 use Rattle.apply_core.specs.Growing.{IsLonger}
 use Rattle.change_laws.specs.declared.changed_keys.ChangedKeys.{ChangedKeys}
 use Rattle.change_laws.specs.declared.changed_keys.ChangedKeys.TheVariants.{All, Touched}
 use Rattle.change_laws.specs.Changes.{LeadOn, changes_in}
 use Rattle.change_laws.specs.Since.{HaveGoneOn, IsTouchedSince}
+pub use Rattle.worker_rounds.specs.Rounds.{AreRunning, HasEndedAs, HaveEndedAs}
 use Rattle.live_core.specs.Source.{IsOfSource}
 use Rattle.live_core.specs.declared.source.Source.{Source}
 
@@ -42,10 +40,6 @@ AreOfBytes feeds all = (s : ℕ) (feed : FeedValue) (bytes : List ℕ) → slice
 -- the same by their sources
 abbrev pub AreOfSources : List FeedValue → List Source → Type 0
 AreOfSources feeds sources = (s : ℕ) (feed : FeedValue) (source : Source) → slice_get feeds s ≡ Some feed → slice_get sources s ≡ Some source → IsOfSource feed source
-
--- all tables of each stream are copied
-abbrev pub AreRunning : Meaning → Type 0
-AreRunning board = (s : ℕ) (state : State) → slice_get board.streams s ≡ Some state → phase_of (standing_of state) ≡ Running
 
 -- the streams have gone on since a board was told
 pub record HasGoneOnFrom (now told : Meaning) : Type 0 where
@@ -114,18 +108,6 @@ pub record AreCounted (count : ℕ) (told : Option Meaning) (board : Meaning) : 
 -- of each stream of a board the number of its applied groups
 abbrev pub AreApplied : List ℕ → Meaning → Type 0
 AreApplied applied board = applied ≡ map (λ (state : State). state.applied) board.streams
-
--- ---- what a move answers
-
--- a stream that answers so has come to its feed's end; whether one that is refused has isn't said
-abbrev pub HasEndedAs : List FeedValue → Meaning → ℕ → Option (Result Bool StepRefusal) → Type 0
-HasEndedAs feeds board s (Some (Ok true)) = StreamHasEnded feeds s board
-HasEndedAs feeds board s answer = Unit {0}
-
--- of each stream the answer
-pub record HaveEndedAs (answers : List (Result Bool StepRefusal)) (feeds : List FeedValue) (board : Meaning) : Type 0 where
-  pub count : length answers ≡ length feeds
-  pub each : (s : ℕ) → HasEndedAs feeds board s (slice_get answers s)
 
 -- ---- laws
 

@@ -5,7 +5,6 @@
 mod growing;
 mod laws;
 mod live;
-mod moving;
 mod source;
 mod told;
 mod touched;

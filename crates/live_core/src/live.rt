@@ -7,9 +7,9 @@ ghost use Rattle.change_laws.specs.Since.{HasMoved};
 ghost use Rattle.checkpoint_laws.specs.Written.{checkpoint_of};
 ghost use Rattle.live_core.specs.Live.{AreApplied, AreCounted, AreOfSources, AreRunning, HaveEndedAs, IsLive, IsRefusedPiece, IsToldExactly, TakesPiece, told_rows};
 ghost use Rattle.live_core.specs.Source.{bytes_of};
+ghost use Rattle.worker_rounds.specs.Rounds.{ApplyUpTo, AreAnswers};
 
 use crate::growing::grow_in;
-use crate::moving::move_all;
 use crate::source::Source;
 use crate::told::{Told, applied_on};
 use crate::touched::touched_since;
@@ -18,6 +18,10 @@ use change_laws::{ChangedKeys, changes_lead_on, streams_go_on};
 use std::alloc::{AllocError, Global};
 use std::marker::Model;
 use std::mem::replace;
+use std::sync::Wait;
+use std::thread::Threads;
+use vrepl_choices::Threading;
+use worker_rounds::run_round;
 
 /// A board that goes on with its feeds: all tables of its streams are copied, the feeds grow, and the streams read and
 /// apply their groups. It knows the bytes of which the feeds are, and what was told of its rows, so that it can be told
@@ -105,17 +109,24 @@ impl<'h> Live<'h> {
         taken
     }
 
-    /// Each stream applies groups of its feed, stream after stream: up to `most` of them, and to the feed's end where there
-    /// are fewer. The answer is of each stream whether it has come to its feed's end, or why it was refused: what was applied
-    /// until then stays. An error is want of memory for the answer; then nothing is done.
-    pub fn more(
+    /// Each stream applies groups of its feed, in a thread beside others or one stream after another: up to `most` of them,
+    /// and to the feed's end where there are fewer. The answer is of each stream whether it has come to its feed's end, or
+    /// why it was refused: what was applied until then stays, and the others go on. An error is want of memory before any
+    /// goes on; then nothing is done. May wait: streams that go on in threads wait for their board.
+    pub fn more<R: Threads + Wait + Sync>(
         &mut self,
+        rt: &R,
         alloc: Global,
+        threading: Threading,
         most: u32,
     ) -> Result<Vec<Result<bool, StepRefusal>>, AllocError>
         // It is a list of steps that read groups and apply them.
         ensures moved { HasMoved self.old.fed.feeds self.old.fed.board self.new.fed.board }
         ensures kept { OnErr result (self.new.fed.board ≡ self.old.fed.board) }
+        // Each stream has applied all groups of its feed, or so many more, or was stopped by this refusal.
+        ensures answers { IfOk result (λ answers. AreAnswers most self.old.fed.feeds self.old.fed.board answers.items self.new.fed.board) }
+        // None has applied more.
+        ensures up_to { ApplyUpTo most self.old.fed.board self.new.fed.board }
         ensures ended { IfOk result (λ ended. HaveEndedAs ended.items self.new.fed.feeds self.new.fed.board) }
         ensures feeds { self.new.fed.feeds ≡ self.old.fed.feeds }
         ensures bytes { self.new.bytes ≡ self.old.bytes }
@@ -124,9 +135,9 @@ impl<'h> Live<'h> {
     {
         streams_go_on();
         self.fed.is_fed();
-        let ended = move_all(alloc, &mut self.fed, most);
+        let answers = run_round(rt, alloc, threading, &mut self.fed, most);
         self.is_live();
-        ended
+        answers
     }
 
     /// Which keys have changed since the last board that was told: those that the streams' groups have touched since,

@@ -21,12 +21,15 @@ use live_requests::Request;
 use printing::{Out, OutFailed};
 use std::alloc::{AllocError, Global};
 use std::sync::Wait;
+use std::thread::Threads;
+use vrepl_choices::Threading;
 
 /// The feeds grow by what has come, the streams apply up to so many groups each, and it is told where they stand then. After
 /// an error what was done stays.
-fn go_on<'h, R: Wait, A: Arrivals<'h>, O: Out>(
+fn go_on<'h, R: Threads + Wait + Sync, A: Arrivals<'h>, O: Out>(
     rt: &R,
     alloc: Global,
+    threading: Threading,
     live: &mut Live<'h>,
     seats: &mut [Seat<'h>],
     arrivals: &mut A,
@@ -40,7 +43,7 @@ fn go_on<'h, R: Wait, A: Arrivals<'h>, O: Out>(
 {
     live.fed().is_fed();
     let bytes = growth(rt, alloc, live, seats, arrivals);
-    let answers = live.more(alloc, most)?;
+    let answers = live.more(rt, alloc, threading, most)?;
     note(seats, answers);
     let changes = live.count(alloc)?;
     let streams = streams_of(alloc, live, seats)?;
@@ -48,9 +51,10 @@ fn go_on<'h, R: Wait, A: Arrivals<'h>, O: Out>(
 }
 
 /// What a request is answered. An error is want of memory.
-fn answer_to<'h, R: Wait, A: Arrivals<'h>, O: Out>(
+fn answer_to<'h, R: Threads + Wait + Sync, A: Arrivals<'h>, O: Out>(
     rt: &R,
     alloc: Global,
+    threading: Threading,
     live: &mut Live<'h>,
     seats: &mut [Seat<'h>],
     arrivals: &mut A,
@@ -65,7 +69,7 @@ fn answer_to<'h, R: Wait, A: Arrivals<'h>, O: Out>(
     match request {
         Request::More { groups } => {
             let most = groups.unwrap_or(u32::MAX);
-            go_on(rt, alloc, live, seats, arrivals, most, out)
+            go_on(rt, alloc, threading, live, seats, arrivals, most, out)
         }
         Request::State => tell_state(alloc, live, seats, out),
         Request::Changes => tell_changes(alloc, live, seats, out),
@@ -85,9 +89,10 @@ fn answer_to<'h, R: Wait, A: Arrivals<'h>, O: Out>(
 }
 
 /// What a request is answered, or 72 for want of memory.
-fn answer_or_refuse<'h, R: Wait, A: Arrivals<'h>, O: Out>(
+fn answer_or_refuse<'h, R: Threads + Wait + Sync, A: Arrivals<'h>, O: Out>(
     rt: &R,
     alloc: Global,
+    threading: Threading,
     live: &mut Live<'h>,
     seats: &mut [Seat<'h>],
     arrivals: &mut A,
@@ -98,16 +103,17 @@ fn answer_or_refuse<'h, R: Wait, A: Arrivals<'h>, O: Out>(
     ensures answer { (text : List ℕ) × IsAnswer (Some (request_value request.entry)) (session_of live.old seats.old) text (session_of live.new seats.new) × Prints result (O.written out.old) (O.written out.new) text }
     ensures seats { length seats.new ≡ length live.new.fed.feeds }
 {
-    match answer_to(rt, alloc, live, seats, arrivals, request, out) {
+    match answer_to(rt, alloc, threading, live, seats, arrivals, request, out) {
         Ok(printed) => printed,
         Err(_) => refuse(out, 72),
     }
 }
 
 /// What a line is answered, that asks for something or for nothing.
-fn answer_line<'h, R: Wait, A: Arrivals<'h>, O: Out>(
+fn answer_line<'h, R: Threads + Wait + Sync, A: Arrivals<'h>, O: Out>(
     rt: &R,
     alloc: Global,
+    threading: Threading,
     live: &mut Live<'h>,
     seats: &mut [Seat<'h>],
     arrivals: &mut A,
@@ -120,14 +126,17 @@ fn answer_line<'h, R: Wait, A: Arrivals<'h>, O: Out>(
 {
     match request {
         None => refuse(out, 124),
-        Some(request) => answer_or_refuse(rt, alloc, live, seats, arrivals, request, out),
+        Some(request) => answer_or_refuse(
+            rt, alloc, threading, live, seats, arrivals, request, out,
+        ),
     }
 }
 
 /// The same. An error is of the output.
-pub(crate) fn answer<'h, R: Wait, A: Arrivals<'h>, O: Out>(
+pub(crate) fn answer<'h, R: Threads + Wait + Sync, A: Arrivals<'h>, O: Out>(
     rt: &R,
     alloc: Global,
+    threading: Threading,
     live: &mut Live<'h>,
     seats: &mut [Seat<'h>],
     arrivals: &mut A,
@@ -141,7 +150,7 @@ pub(crate) fn answer<'h, R: Wait, A: Arrivals<'h>, O: Out>(
     ensures live { IsLive live.new }
     ensures fed { IsFedBoard live.new.fed.feeds live.new.fed.board }
 {
-    let printed = answer_line(rt, alloc, live, seats, arrivals, request, out);
+    let printed = answer_line(rt, alloc, threading, live, seats, arrivals, request, out);
     live.fed().is_fed();
     printed
 }

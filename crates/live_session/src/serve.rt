@@ -14,6 +14,8 @@ use printing::{Out, OutFailed};
 use std::alloc::Global;
 use std::io::Read;
 use std::sync::Wait;
+use std::thread::Threads;
+use vrepl_choices::Threading;
 
 /// Why a session ends but by its input's end or `end`.
 #[derive(Clone, Copy, Debug, PartialEq, Eq)]
@@ -62,9 +64,10 @@ fn goes_on(request: Option<Request<'_>>) -> bool
 }
 
 /// Takes the next line and answers it: whether the session goes on.
-fn turn<'h, R: Wait, A: Arrivals<'h>, I: Read, O: Out>(
+fn turn<'h, R: Threads + Wait + Sync, A: Arrivals<'h>, I: Read, O: Out>(
     rt: &R,
     alloc: Global,
+    threading: Threading,
     live: &mut Live<'h>,
     seats: &mut [Seat<'h>],
     arrivals: &mut A,
@@ -79,16 +82,17 @@ fn turn<'h, R: Wait, A: Arrivals<'h>, I: Read, O: Out>(
     let Some(request) = next_request(lines, input)? else {
         return Ok(false);
     };
-    match answer(rt, alloc, live, seats, arrivals, request, out) {
+    match answer(rt, alloc, threading, live, seats, arrivals, request, out) {
         Err(OutFailed) => Err(ServeFault::CannotWrite),
         Ok(()) => Ok(goes_on(request)),
     }
 }
 
 /// Answers the requests of an input, a line each, until it ends or `end` is asked.
-pub(crate) fn serve_all<'h, R: Wait, A: Arrivals<'h>, I: Read, O: Out>(
+pub(crate) fn serve_all<'h, R: Threads + Wait + Sync, A: Arrivals<'h>, I: Read, O: Out>(
     rt: &R,
     alloc: Global,
+    threading: Threading,
     live: &mut Live<'h>,
     seats: &mut [Seat<'h>],
     arrivals: &mut A,
@@ -103,7 +107,9 @@ pub(crate) fn serve_all<'h, R: Wait, A: Arrivals<'h>, I: Read, O: Out>(
         return Err(ServeFault::Memory);
     };
     for _ in rt.forever() {
-        if !turn(rt, alloc, live, seats, arrivals, &mut lines, input, out)? {
+        if !turn(
+            rt, alloc, threading, live, seats, arrivals, &mut lines, input, out,
+        )? {
             return Ok(());
         }
     }

@@ -14,6 +14,8 @@ use std::alloc::{AllocError, Global};
 use std::io::Read;
 use std::marker::Model;
 use std::sync::Wait;
+use std::thread::Threads;
+use vrepl_choices::Threading;
 
 /// A board that goes on, and a seat for each of its streams.
 #[derive(Drop)]
@@ -70,15 +72,16 @@ impl<'h> Session<'h> {
         self.live.fed().is_fed();
     }
 
-    /// Answers the requests of an input, a line each, until it ends or `end` is asked. May wait for ever: an input may give
-    /// nothing.
+    /// Answers the requests of an input, a line each, until it ends or `end` is asked. Streams go on in threads, or one after
+    /// another. May wait for ever: an input may give nothing.
     ///
     /// Refused 131 where a request can't be read, 132 where an answer can't be written, and 72 for want of memory for a
     /// line, before any is read.
-    pub fn serve<R: Wait, A: Arrivals<'h>, I: Read, O: Out>(
+    pub fn serve<R: Threads + Wait + Sync, A: Arrivals<'h>, I: Read, O: Out>(
         &mut self,
         rt: &R,
         alloc: Global,
+        threading: Threading,
         arrivals: &mut A,
         input: &mut I,
         out: &mut O,
@@ -92,6 +95,7 @@ impl<'h> Session<'h> {
         let ended = serve_all(
             rt,
             alloc,
+            threading,
             &mut self.live,
             &mut self.seats,
             arrivals,

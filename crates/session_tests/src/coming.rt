@@ -9,6 +9,8 @@ use printing::Writer;
 use std::alloc::{AllocError, Global};
 use std::io::Cursor;
 use std::sync::Wait;
+use std::thread::Threads;
+use vrepl_choices::Threading;
 
 /// The bytes of a feed up to there are given, and so many more have come.
 #[derive(Clone, Copy)]
@@ -91,7 +93,7 @@ fn are_printed(printed: &[u8], lines: &[&str]) -> bool {
 }
 
 /// Whether a session over these bytes, the first of which had come, answers so.
-fn answers_over<'h, R: Wait>(
+fn answers_over<'h, R: Threads + Wait + Sync>(
     rt: &R,
     alloc: Global,
     feed: &'h [u8],
@@ -118,13 +120,20 @@ fn answers_over<'h, R: Wait>(
     let mut room = [0u8; 4096];
     let mut out = Writer::new(Cursor::new(&mut room[..]));
     let mut input = requests;
-    let ended = session.serve(rt, alloc, &mut coming, &mut input, &mut out);
+    let ended = session.serve(
+        rt,
+        alloc,
+        Threading::Parallel,
+        &mut coming,
+        &mut input,
+        &mut out,
+    );
     Ok(ended.is_ok() && are_printed(&room, wanted))
 }
 
 /// Whether a session answers so, over a feed of which `first` bytes had come, and so many at
 /// each further look.
-pub fn answers<R: Wait>(
+pub fn answers<R: Threads + Wait + Sync>(
     rt: &R,
     alloc: Global,
     first: usize,

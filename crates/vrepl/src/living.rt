@@ -15,8 +15,9 @@ use std::fs;
 use std::io::BufReader;
 use std::rt::HostRuntime;
 use std::sync::Wait;
+use std::thread::Threads;
 use vrepl_live::{ArrivalFault, Arrivals, Arrived, LiveInputs, SaveFault, live};
-use vrepl_main::{CommandRefusal, InputName, Untold, read_input};
+use vrepl_main::{CommandRefusal, InputName, RunCourse, Untold, read_input};
 use vrepl_words::words::Live;
 
 /// The file behind standard input, where the system has names for such.
@@ -143,7 +144,7 @@ struct SavePlace {
 /// Answers requests on standard input over the workflow and the feeds that the words name, from their checkpoint on, if they
 /// name one, until `end` or the input's end. The file of `--save-to` is looked at before any is read; the files are read
 /// in this order: the checkpoint, the workflow, the feeds.
-pub(crate) fn run_live<'w, T: Wait>(
+pub(crate) fn run_live<'w, T: Threads + Wait + Sync>(
     rt: &HostRuntime,
     threads: &T,
     words: &Live<'w>,
@@ -227,7 +228,7 @@ fn open_feed<'w>(
 }
 
 /// Opens the session over what was read, and answers the requests on standard input.
-fn answered<'h, 'w, T: Wait>(
+fn answered<'h, 'w, T: Threads + Wait + Sync>(
     rt: &HostRuntime,
     threads: &T,
     words: &Live<'w>,
@@ -241,8 +242,12 @@ fn answered<'h, 'w, T: Wait>(
     let Ok(mut input) = BufReader::new(rt.alloc(), rt.reader()) else {
         return Err(CommandRefusal::Memory);
     };
-    let inputs = LiveInputs {
+    let course = RunCourse {
+        threading: words.threading,
         policy: policy_of(words.portions),
+    };
+    let inputs = LiveInputs {
+        course,
         checkpoint: read.checkpoint.as_deref(),
         workflow: &read.workflow,
         feeds: &read.feeds,

@@ -4,7 +4,6 @@ ghost use Rattle.std.specs.Prelude.{◌≡◌, ◌≤◌, IfOk, IfErr, OnOk};
 ghost use Rattle.vrepl_live.specs.Living.{HasServed, IsOpenedBy, IsUnopenedBy, LiveEnds, outside};
 
 use crate::refusing::{as_unfollowed, fault_refusal};
-use apply_core::Policy;
 use live_core::Live;
 use live_opening::{Unopened, open};
 use live_session::{Arrivals, ServeFault, Session};
@@ -12,13 +11,15 @@ use printing::Out;
 use std::alloc::Global;
 use std::io::Read;
 use std::sync::Wait;
-use vrepl_main::{refuse, refuse_unfollowed};
+use std::thread::Threads;
+use vrepl_choices::Threading;
+use vrepl_main::{RunCourse, refuse, refuse_unfollowed};
 
 /// What a session starts from.
 #[derive(Clone, Copy)]
 pub struct LiveInputs<'h> {
-    /// In what portions the streams read and copy on their way to what has come.
-    pub policy: Policy,
+    /// In what portions the streams read and copy on their way to what has come, and whether they go on in threads then.
+    pub course: RunCourse,
     /// The checkpoint to go on from, where there is one.
     pub checkpoint: Option<&'h [u8]>,
     /// The workflow file.
@@ -34,7 +35,7 @@ fn open_board<'h>(alloc: Global, inputs: &LiveInputs<'h>) -> Result<Live<'h>, Un
 {
     open(
         alloc,
-        &inputs.policy,
+        &inputs.course.policy,
         inputs.workflow,
         inputs.checkpoint,
         inputs.feeds,
@@ -42,9 +43,10 @@ fn open_board<'h>(alloc: Global, inputs: &LiveInputs<'h>) -> Result<Live<'h>, Un
 }
 
 /// Serves a session over a board, of whose feeds these bytes had come.
-fn serve_over<'h, R: Wait, A: Arrivals<'h>, I: Read, W: Out>(
+fn serve_over<'h, R: Threads + Wait + Sync, A: Arrivals<'h>, I: Read, W: Out>(
     rt: &R,
     alloc: Global,
+    threading: Threading,
     live: Live<'h>,
     come: &[Vec<u8>],
     arrivals: &mut A,
@@ -56,7 +58,7 @@ fn serve_over<'h, R: Wait, A: Arrivals<'h>, I: Read, W: Out>(
     let Ok(mut session) = Session::new(alloc, live, come) else {
         return Err(ServeFault::Memory);
     };
-    session.serve(rt, alloc, arrivals, input, out)
+    session.serve(rt, alloc, threading, arrivals, input, out)
 }
 
 /// Opens a workflow with what has come of its feeds, or goes on from a checkpoint, as `follow` does, and then answers the
@@ -64,7 +66,7 @@ fn serve_over<'h, R: Wait, A: Arrivals<'h>, I: Read, W: Out>(
 /// `follow` refuses, and then nothing is read or answered; or 131 where a request can't be read, 132 where an answer can't
 /// be written, of the file `-`, or 72 for want of memory. Answers the status: 0, or 1 behind a refusal.
 /// May wait for ever: an input may give nothing.
-pub fn live<'h, R: Wait, A: Arrivals<'h>, I: Read, W: Out, E: Out>(
+pub fn live<'h, R: Threads + Wait + Sync, A: Arrivals<'h>, I: Read, W: Out, E: Out>(
     rt: &R,
     alloc: Global,
     inputs: &LiveInputs<'h>,
@@ -82,7 +84,17 @@ pub fn live<'h, R: Wait, A: Arrivals<'h>, I: Read, W: Out, E: Out>(
         Ok(board) => board,
         Err(unopened) => return refuse_unfollowed(err, as_unfollowed(unopened)),
     };
-    match serve_over(rt, alloc, board, inputs.feeds, arrivals, input, out) {
+    let threading = inputs.course.threading;
+    match serve_over(
+        rt,
+        alloc,
+        threading,
+        board,
+        inputs.feeds,
+        arrivals,
+        input,
+        out,
+    ) {
         Ok(()) => 0,
         Err(fault) => refuse(err, &fault_refusal(fault)),
     }

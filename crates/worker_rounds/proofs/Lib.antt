@@ -1,0 +1,4 @@
+mod StepsOnRounds
+mod StreamsOnRounds
+mod GroupsTakenIn
+mod RoundsEnd
