@@ -62,6 +62,11 @@ impl<'a, 'h, R: Wait, J: Began> Place<'a, 'h, R, J> {
         })
     }
 
+    /// Whether the stream's feed had groups at first that it hadn't applied.
+    pub(crate) fn has_more(&self) -> bool {
+        (self.applied as usize) < self.feeds[self.stream as usize].len()
+    }
+
     /// Group `number` of the stream's feed, with what it puts, if it can be prepared.
     fn ready(&self, number: u32) -> Option<Ready<'h>>
         ensures { IfSome result (IsReady J.fed self.now.stream) }

@@ -23,7 +23,7 @@ use std::thread;
 use std::thread::Threads;
 use vrepl_choices::Threading;
 
-/// The places of all streams on the board that they share. An error is want of memory.
+/// The places of the streams that have something to apply, on the board that they share. An error is want of memory.
 fn places_of<'a, 'h, R: Wait, J: Began>(
     rt: &'a R,
     alloc: Global,
@@ -37,7 +37,10 @@ fn places_of<'a, 'h, R: Wait, J: Began>(
 {
     let mut places = Vec::with_capacity(alloc, feeds.len())?;
     for s in 0..feeds.len() {
-        places.push(Place::of(rt, alloc, going, feeds, s as u8, most)?)?;
+        let place = Place::of(rt, alloc, going, feeds, s as u8, most)?;
+        if place.has_more() {
+            places.push(place)?;
+        }
     }
     Ok(places)
 }
@@ -52,7 +55,8 @@ fn threads(rt: &impl Threads) -> usize
     }
 }
 
-/// All streams go on in threads, each as far as it can. Where there is no memory for their places, none does.
+/// All streams go on in threads, each as far as it can; a single one in this thread. Where there is no memory for their
+/// places, none does.
 fn work_beside<'a, 'h, R: Threads + Wait + Sync, J: Began + Send + Sync>(
     rt: &'a R,
     alloc: Global,
