@@ -216,9 +216,9 @@ module _ (fed : Fed) (most : ℕ) (old now new : Gone) (s : ℕ) (on : IsOnRound
 -- ---- a group that stands ready is taken in
 
 module _ (fed : Fed) (most : ℕ) (old new : Gone) (s n : ℕ) (ready : Ready) (on : IsOnRound fed most old) (still : IsOnRound fed most new) (may : MayTakeIn fed most old s n) (next : n ≡ (arc_value ready.group).number) (is_ready : IsReady fed s ready)
-    (made : Bool) (step : IsStepOn fed.feeds s (Offer (arc_value ready.group).number) made old new) (yes : made ≡ true) where
+    (made : Bool) (step : IsStepOn fed.feeds s (Offer (arc_value ready.group).number) made old new) (holds : made ≡ true) where
   was-made : IsStepOn fed.feeds s (Offer (arc_value ready.group).number) true old new
-  was-made = subst (λ (b : Bool). IsStepOn fed.feeds s (Offer (arc_value ready.group).number) b old new) yes step
+  was-made = subst (λ (b : Bool). IsStepOn fed.feeds s (Offer (arc_value ready.group).number) b old new) holds step
 
   pub taken-runs : Runs new s
   taken-runs = step-runs fed.feeds s (Offer (arc_value ready.group).number) old new may.runs was-made

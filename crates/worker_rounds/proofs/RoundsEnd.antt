@@ -148,8 +148,8 @@ module _ (fed : Fed) (most : ℕ) (gone : Gone) (answers : List (Result Bool Ste
 -- ---- the answers so far
 
 pub answers-none : (feeds : List FeedValue) (board : Meaning) (stopped : List (Option StepRefusal)) (answers : List (Result Bool StepRefusal)) → stopped ≡ [] → answers ≡ [] → AreAnswersBy feeds board stopped answers
-answers-none feeds board stopped answers no none = record {
-  count = ap (λ (xs : List (Result Bool StepRefusal)). length xs) none ∙ sym (ap (λ (xs : List (Option StepRefusal)). length xs) no);
+answers-none feeds board stopped answers unstopped none = record {
+  count = ap (λ (xs : List (Result Bool StepRefusal)). length xs) none ∙ sym (ap (λ (xs : List (Option StepRefusal)). length xs) unstopped);
   each = λ s feed state stop answer at there stopped_by answered_by. absurd (none-some answer (sym (ap (λ (xs : List (Result Bool StepRefusal)). slice_get xs s) none) ∙ answered_by));
 }
 

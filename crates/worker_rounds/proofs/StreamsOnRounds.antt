@@ -30,12 +30,12 @@ read-at {A} xs ys s x same less is = ap (λ (zs : List A). slice_get zs s) (sym 
 
 -- what it says of a stop
 pub running-by : (stopped : List (Option StepRefusal)) (s : ℕ) (stop : Option StepRefusal) (runs : Bool) → slice_get stopped s ≡ Some stop → is_some stop ≡ not runs → runs ≡ true → slice_get stopped s ≡ Some None
-running-by stopped s None runs at tells yes = at
-running-by stopped s (Some refusal) runs at tells yes = absurd (true≢false (tells ∙ ap not yes))
+running-by stopped s None runs at tells holds = at
+running-by stopped s (Some refusal) runs at tells holds = absurd (true≢false (tells ∙ ap not holds))
 
 pub stopped-by : (stopped : List (Option StepRefusal)) (s : ℕ) (stop : Option StepRefusal) (runs : Bool) → slice_get stopped s ≡ Some stop → is_some stop ≡ not runs → runs ≡ false → IsStopAt stopped s
-stopped-by stopped s None runs at tells no = absurd (true≢false (sym (tells ∙ ap not no)))
-stopped-by stopped s (Some refusal) runs at tells no = (refusal, at)
+stopped-by stopped s None runs at tells fails = absurd (true≢false (sym (tells ∙ ap not fails)))
+stopped-by stopped s (Some refusal) runs at tells fails = (refusal, at)
 
 -- ---- how many groups are applied
 

@@ -6,7 +6,7 @@ use Rattle.worker_rounds.proofs.going.Going.go_on.Goals as goal
 
 pub returns-then-not-runs-clause-through : goal.returns-then-not-runs-clause-through
 returns-then-not-runs-clause-through g c =
-    λ no. inl (c.runs.ensures.no c.if-not-runs.true)
+    λ fails. inl (c.runs.ensures.no c.if-not-runs.true)
 
 pub returns-then-not-runs-clause-aside : goal.returns-then-not-runs-clause-aside
 returns-then-not-runs-clause-aside g c =
@@ -14,7 +14,7 @@ returns-then-not-runs-clause-aside g c =
 
 pub returns-then-not-may_apply-clause-through : goal.returns-then-not-may_apply-clause-through
 returns-then-not-may_apply-clause-through g c =
-    λ no. inr (λ feed before after at stood stands. inl (c.may_apply.ensures.no c.if-not-may_apply.true feed before after at stood stands))
+    λ fails. inr (λ feed before after at stood stands. inl (c.may_apply.ensures.no c.if-not-may_apply.true feed before after at stood stands))
 
 pub returns-then-not-may_apply-clause-aside : goal.returns-then-not-may_apply-clause-aside
 returns-then-not-may_apply-clause-aside g c =
@@ -22,7 +22,7 @@ returns-then-not-may_apply-clause-aside g c =
 
 pub returns-then-has_all-clause-through : goal.returns-then-has_all-clause-through
 returns-then-has_all-clause-through g c =
-    λ no. inr (λ feed before after at stood stands. inr (c.has_all.ensures c.if-has_all.true feed before after at stood stands))
+    λ fails. inr (λ feed before after at stood stands. inr (c.has_all.ensures c.if-has_all.true feed before after at stood stands))
 
 pub returns-then-has_all-clause-aside : goal.returns-then-has_all-clause-aside
 returns-then-has_all-clause-aside g c =
@@ -30,7 +30,7 @@ returns-then-has_all-clause-aside g c =
 
 pub returns-then-not-read_next-clause-through : goal.returns-then-not-read_next-clause-through
 returns-then-not-read_next-clause-through g c =
-    λ no. inl (c.read_next.ensures.stopped c.if-not-read_next.true)
+    λ fails. inl (c.read_next.ensures.stopped c.if-not-read_next.true)
 
 pub step-requires-clause-room : goal.step-requires-clause-room
 step-requires-clause-room g c =

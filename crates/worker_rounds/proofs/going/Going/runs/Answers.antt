@@ -9,8 +9,8 @@ is_running-requires g c =
 
 pub returns-clause-yes : goal.returns-clause-yes
 returns-clause-yes g c =
-    λ yes. subst (λ (x : Gone). Runs x c.args.s) c.self.view_is (subst (λ (xs : List (Option StepRefusal)). slice_get xs c.args.s ≡ Some None) c.deref.ensures.value (c.is_running.ensures.yes yes))
+    λ holds. subst (λ (x : Gone). Runs x c.args.s) c.self.view_is (subst (λ (xs : List (Option StepRefusal)). slice_get xs c.args.s ≡ Some None) c.deref.ensures.value (c.is_running.ensures.yes holds))
 
 pub returns-clause-no : goal.returns-clause-no
 returns-clause-no g c =
-    λ no. subst (λ (x : Gone). IsStoppedIn x c.args.s) c.self.view_is (subst (λ (xs : List (Option StepRefusal)). IsStopAt xs c.args.s) c.deref.ensures.value (c.is_running.ensures.no no))
+    λ fails. subst (λ (x : Gone). IsStoppedIn x c.args.s) c.self.view_is (subst (λ (xs : List (Option StepRefusal)). IsStopAt xs c.args.s) c.deref.ensures.value (c.is_running.ensures.no fails))
