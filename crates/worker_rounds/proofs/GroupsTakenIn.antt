@@ -58,7 +58,7 @@ offered-by {X} feed old new s group answer prepared r h = by r h
     event = ap (λ (x : Result PreparedValue FeedFault). option_map offer (result_ok x)) prepared
 
     sound : IsOk (prepared_at feed group.number)
-    sound = subst (λ (x : Result PreparedValue FeedFault). IsOk x) (sym prepared) tt
+    sound = subst (λ (x : Result PreparedValue FeedFault). IsOk x) (sym prepared) refl
 
     by : (r : Result X Refusal) → IsStep old s (offer group) (answered answer r) new → IsReplyBy feed old s (Offer group.number) (by_board answer r) new
     by (Ok x) h = record { event = offer group; of_step = event; stepped = h }
@@ -140,7 +140,7 @@ left-same marks marks_of plan group key same is =
 
 module _ (fed : Fed) (most : ℕ) (old new : Gone) (s : ℕ) (ready : Ready) (on : IsOnRound fed most old) (may : MayTakeIn fed most old s (arc_value ready.group).number) (is_ready : IsReady fed s ready) (fed_now : IsFedBoard fed.feeds old.board)
     (step : IsStepOn fed.feeds s (Offer (arc_value ready.group).number) true old new) where
-  group : PreparedValue
+  abbrev group : PreparedValue
   group = arc_value ready.group
 
   -- the stream has read it

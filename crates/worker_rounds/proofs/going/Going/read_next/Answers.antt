@@ -14,16 +14,16 @@ returns-then-applied-read-clause-aside g c =
 
 pub returns-clause-runs : goal.returns-clause-runs
 returns-clause-runs g c =
-    runs-on g.J.Began.fed.feeds c.args.s (Offer (c.numbers.result.0 + 1)) c.step.result c.args.self.now c.step.new.self c.requires.runs c.step.ensures.step
+    runs-on g.J.Began.fed.feeds c.args.s (Offer (c.numbers-read.result.0 + 1)) c.step.result c.args.self.now c.step.new.self c.requires.runs c.step.ensures.step
 
 pub returns-clause-stopped : goal.returns-clause-stopped
 returns-clause-stopped g c =
-    stops-on g.J.Began.fed.feeds c.args.s (Offer (c.numbers.result.0 + 1)) c.step.result c.args.self.now c.step.new.self c.requires.runs c.step.ensures.step
+    stops-on g.J.Began.fed.feeds c.args.s (Offer (c.numbers-read.result.0 + 1)) c.step.result c.args.self.now c.step.new.self c.requires.runs c.step.ensures.step
 
 pub returns-clause-applied : goal.returns-clause-applied
 returns-clause-applied g c =
-    offer-none g.J.Began.fed.feeds c.args.s (c.numbers.result.0 + 1) c.step.result c.args.self.now c.step.new.self c.step.ensures.step
+    offer-none g.J.Began.fed.feeds c.args.s (c.numbers-read.result.0 + 1) c.step.result c.args.self.now c.step.new.self c.step.ensures.step
 
 pub returns-clause-aside : goal.returns-clause-aside
 returns-clause-aside g c =
-    step-aside g.J.Began.fed.feeds c.args.s (Offer (c.numbers.result.0 + 1)) c.step.result c.args.self.now c.step.new.self c.step.ensures.step
+    step-aside g.J.Began.fed.feeds c.args.s (Offer (c.numbers-read.result.0 + 1)) c.step.result c.args.self.now c.step.new.self c.step.ensures.step
