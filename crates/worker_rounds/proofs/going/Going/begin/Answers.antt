@@ -8,9 +8,9 @@ pub unreachable-requires : goal.unreachable-requires
 unreachable-requires g c =
     not-none g.J.Began.fed g.J.Began.most (record { board = c.self.inside.board; stopped = c.self.inside.stopped.items; first = c.self.inside.first.items }) c.self.invariant c.args.s c.requires c.in_default.ensures.no_stream.1
 
-pub unreachable-requires-2 : goal.unreachable-requires-2
-unreachable-requires-2 g c =
-    not-none g.J.Began.fed g.J.Began.most (record { board = c.self.inside.board; stopped = c.self.inside.stopped.items; first = c.self.inside.first.items }) c.self.invariant c.args.s c.requires c.in_default-2.ensures.no_stream.1
+pub unreachable-requires-in_default-marks : goal.unreachable-requires-in_default-marks
+unreachable-requires-in_default-marks g c =
+    not-none g.J.Began.fed g.J.Began.most (record { board = c.self.inside.board; stopped = c.self.inside.stopped.items; first = c.self.inside.first.items }) c.self.invariant c.args.s c.requires c.in_default-marks.ensures.no_stream.1
 
 pub returns : goal.returns
 returns g c =

@@ -20,8 +20,8 @@ pub loop-done-preserved : goal.loop-done-preserved
 loop-done-preserved g c = (
   c.go_on.ensures.round,
   aside-trans c.args.s c.args.self.now c.loop-done.self c.go_on.new.self c.loop-done.invariant.1 c.go_on.ensures.aside,
-  gains-one g.J.Began.fed g.J.Began.most c.loop-done.self c.go_on.new.self c.args.s c.loop-done.done (c.loop-done.done + 1) (omega arith) c.loop-done.invariant.0 c.go_on.ensures.round (c.go_on.ensures.went c.if-not-go_on.false) c.loop-done.invariant.2,
+  gains-one g.J.Began.fed g.J.Began.most c.loop-done.self c.go_on.new.self c.args.s c.loop-done._done (c.loop-done._done + 1) (omega arith) c.loop-done.invariant.0 c.go_on.ensures.round (c.go_on.ensures.went c.if-not-go_on.false) c.loop-done.invariant.2,
 )
 
 pub returns-clause-through : goal.returns-clause-through
-returns-clause-through g c = gained-far g.J.Began.fed g.J.Began.most c.loop-done.self c.args.s c.loop-done.invariant.0 (subst (λ (n : ℕ). Gains c.args.s n g.J.Began.fed.board c.loop-done.self.board) (omega (arith, c.loop-done-test.false, c.loop-done.auto.done-end, c.requires.most)) c.loop-done.invariant.2)
+returns-clause-through g c = gained-far g.J.Began.fed g.J.Began.most c.loop-done.self c.args.s c.loop-done.invariant.0 (subst (λ (n : ℕ). Gains c.args.s n g.J.Began.fed.board c.loop-done.self.board) (omega (arith, c.loop-done-test.false, c.loop-done.auto._done-end, c.requires.most)) c.loop-done.invariant.2)
