@@ -1,7 +1,7 @@
 -- Groups that stand ready are offered and applied.
-use Rattle.std.proofs.Common.{◌≡◌, ◌≢◌, ◌⊎◌, inl, inr, ℕ, zero, suc, ◌+◌, ◌<◌, ◌≤◌, Bool, true, false, List, [], ◌∷◌, ◌++◌, length, map, cond, get_or, Option, Some, None, Result, Ok, Err, slice_get, set, refl, sym, ap, subst, ◌∙◌, arith}
-use Rattle.std.proofs.lemmas.Option.{same_Some, none-some, slice_get_within}
-use Rattle.std.specs.Prelude.{IfSome, IsOk, IsSomeAnd, nat_le}
+use Rattle.std.proofs.Common.{◌≡◌, ℕ, zero, suc, ◌<◌, Bool, true, false, List, [], ◌∷◌, ◌++◌, length, get_or, Option, Some, None, Result, Ok, Err, slice_get, set, refl, sym, ap, subst, ◌∙◌, arith}
+use Rattle.std.proofs.lemmas.Option.{same_Some, slice_get_within}
+use Rattle.std.specs.Prelude.{IfSome, IsOk, nat_le}
 use Rattle.std.specs.Arc.{arc_value}
 use Rattle.std.specs.Option.{option_map, option_and_then}
 use Rattle.std.specs.Result.{result_ok}
@@ -10,19 +10,16 @@ use Rattle.filter_rule.specs.PlanValue.{PlanValue}
 use Rattle.pk_copy.specs.KeyOrder.{key_cmp}
 use Rattle.pk_copy.specs.KeyValue.{KeyValue}
 use Rattle.pk_copy.specs.Marks.{Marks}
-use Rattle.stream_core.specs.declared.step.Step.{Step}
 use Rattle.stream_core.specs.declared.step.Step.TheVariants.{Offer, Advance}
 use Rattle.target_tables.specs.Touches.{last_at}
 use Rattle.source_feed.specs.declared.fault.FeedFault.{FeedFault}
-use Rattle.source_feed.specs.History.{RowValue, kept_of}
+use Rattle.source_feed.specs.History.{kept_of}
 use Rattle.source_feed.specs.Planned.{FeedValue}
 use Rattle.source_feed.specs.Touches.{PreparedValue, prepared_at}
 use Rattle.board_laws.specs.declared.answer.Answer.{Answer}
-use Rattle.board_laws.specs.declared.answer.Answer.TheVariants.{Offered, Applied}
 use Rattle.board_laws.specs.declared.refusal.Refusal.{Refusal}
 use Rattle.board_laws.specs.declared.refusal.Refusal.TheVariants.{NoStream, WrongPlan, Diverged, Core, OwnedByOther, FeedCount, Memory}
-use Rattle.board_laws.specs.declared.step_refusal.StepRefusal.{StepRefusal}
-use Rattle.board_laws.specs.declared.step_refusal.StepRefusal.TheVariants.{Unprepared, Refused}
+use Rattle.board_laws.specs.declared.step_refusal.StepRefusal.TheVariants.{Refused}
 use Rattle.board_laws.specs.Event.{Event, offer, advance}
 use Rattle.board_laws.specs.FedBoards.{Fed, IsFedBoard}
 use Rattle.board_laws.specs.Meaning.{State, Meaning}
@@ -30,17 +27,17 @@ use Rattle.board_laws.specs.Runs.{event_of_step}
 use Rattle.board_laws.specs.Schedule.{Reply, IsEventStep, IsReplyBy, IsReply}
 use Rattle.board_laws.specs.StateAfter.{state_after}
 use Rattle.board_laws.specs.Step.{answered, IsMade, IsStep}
-use Rattle.board_laws.specs.Touching.{left_by, passed_by, touch_of}
+use Rattle.board_laws.specs.Touching.{left_by, passed_by}
 use Rattle.board_laws.proofs.Following.{answered_by}
 use Rattle.list_laws.proofs.Places.{place_of, slice_get-set_same}
 use Rattle.apply_core.specs.Putting.{DoAsStep}
 use Rattle.apply_core.proofs.CourseStepsAreAllowed.{of_offer, prepared-plan}
 use Rattle.apply_core.proofs.FedLaws.{plan-of, reply-fed}
-use Rattle.change_laws.specs.Since.{HasGoneOn, HaveGoneOn, GoesOnBy, HasMoved}
+use Rattle.change_laws.specs.Since.{HasGoneOn, HaveGoneOn}
 use Rattle.change_laws.proofs.GoingOn.{moved-goes_on}
 use Rattle.worker_rounds.specs.declared.ready.Ready.{Ready}
 use Rattle.worker_rounds.specs.Private.OnRound.{Gone, IsOnRound, Runs, MayApply, IsStepOn, IsReady, MayTakeIn}
-use Rattle.worker_rounds.proofs.StepsOnRounds.{Stepped, offer-applies_none, stepped-ok, stepped-err}
+use Rattle.worker_rounds.proofs.StepsOnRounds.{Stepped, stepped-ok, stepped-err}
 use Rattle.worker_rounds.proofs.StreamsOnRounds.{read-at, fed-now, may-still, offer-none, step-runs}
 
 -- ---- what the board's calls reply

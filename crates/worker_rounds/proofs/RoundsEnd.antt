@@ -1,5 +1,5 @@
 -- How a round begins, and how it ends.
-use Rattle.std.proofs.Common.{◌≡◌, ◌≢◌, ◌⊎◌, ◌==◌, inl, inr, ℕ, zero, suc, ◌+◌, ◌<◌, ◌≤◌, Bool, true, false, List, [], ◌∷◌, ◌++◌, length, length-append, map, get_or, Option, Some, None, Result, Ok, Err, slice_get, refl, sym, ap, subst, ◌∙◌, arith}
+use Rattle.std.proofs.Common.{◌≡◌, ◌≢◌, ◌==◌, inl, inr, ℕ, zero, suc, ◌+◌, ◌<◌, ◌≤◌, Bool, true, false, List, [], ◌∷◌, ◌++◌, length, length-append, get_or, Option, Some, None, Result, Ok, Err, slice_get, refl, sym, ap, subst, ◌∙◌, arith}
 use Rattle.std.proofs.lemmas.Bool.{eqb-false}
 use Rattle.std.proofs.lemmas.Option.{same_Some, none-some, slice_get_read, slice_get_within}
 use Rattle.std.specs.Prelude.{IfSome}
@@ -13,11 +13,11 @@ use Rattle.board_laws.specs.declared.step_refusal.StepRefusal.{StepRefusal}
 use Rattle.board_laws.specs.FedBoards.{Fed, IsFedBoard}
 use Rattle.board_laws.specs.Lawful.{IsLawful, standing_of}
 use Rattle.board_laws.specs.Meaning.{State, Meaning}
-use Rattle.apply_core.specs.Ended.{StreamHasEnded, HasEnded}
+use Rattle.apply_core.specs.Ended.{StreamHasEnded}
 use Rattle.apply_core.proofs.PhasesTellNumbers.{running-done}
 use Rattle.change_laws.specs.Since.{HasGoneOn, HaveGoneOn, HasMoved}
 use Rattle.change_laws.proofs.GoingOn.{stands-still, moved-goes_on}
-use Rattle.worker_rounds.specs.Rounds.{OfStream, HasAppliedAll, HasAppliedMost, IsStopped, IsAnswer, AreAnswers, ApplyUpTo, AreRunning, HasEndedAs, HaveEndedAs}
+use Rattle.worker_rounds.specs.Rounds.{OfStream, HasAppliedAll, HasAppliedMost, IsAnswer, AreAnswers, ApplyUpTo, AreRunning, HasEndedAs, HaveEndedAs}
 use Rattle.worker_rounds.proofs.StreamsOnRounds.{fed-now}
 use Rattle.worker_rounds.specs.Private.OnRound.{Gone, IsOnRound, AreAsideOf, IsFar, IsThrough, AreThrough, Gains, AppliesOne, AnswersBy, AreAnswersBy, applied_on}
 

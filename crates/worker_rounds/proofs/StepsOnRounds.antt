@@ -1,23 +1,20 @@
 -- What a step does to a board on its round.
-use Rattle.std.proofs.Common.{◌≡◌, ◌≢◌, ◌⊎◌, inl, inr, ℕ, suc, ◌+◌, ◌<◌, ◌≤◌, Bool, true, false, List, [], ◌∷◌, ◌++◌, length, map, cond, Option, Some, None, Result, Ok, Err, slice_get, set, refl, sym, ap, subst, ◌∙◌, arith}
-use Rattle.std.proofs.lemmas.List.{length-set, length-map}
-use Rattle.std.proofs.lemmas.Option.{same_Some, none-some, slice_get_past, slice_get_cases, slice_get-map, slice_get_within}
-use Rattle.std.specs.Prelude.{IfSome, IfOk, IsOk, IsSomeAnd, MatchOption, nat_le}
-use Rattle.std.specs.Arc.{arc_value}
-use Rattle.std.specs.List.{AllByRecursion}
-use Rattle.std.specs.Option.{option_map, option_and_then}
+use Rattle.std.proofs.Common.{◌≡◌, ◌≢◌, ◌⊎◌, inl, inr, ℕ, suc, ◌+◌, ◌<◌, ◌≤◌, Bool, true, false, List, [], ◌∷◌, ◌++◌, length, cond, Option, Some, None, Result, Ok, Err, slice_get, set, refl, sym, ap, subst, ◌∙◌, arith}
+use Rattle.std.proofs.lemmas.List.{length-set}
+use Rattle.std.proofs.lemmas.Option.{same_Some, none-some, slice_get_within}
+use Rattle.std.specs.Prelude.{nat_le}
+use Rattle.std.specs.Option.{option_map}
 use Rattle.std.specs.Result.{result_ok}
-use Rattle.list_laws.proofs.Places.{place_of, slice_get-set_same, slice_get-set_other}
+use Rattle.list_laws.proofs.Places.{place_of, slice_get-set_other}
 use Rattle.stream_core.specs.declared.step.Step.{Step}
 use Rattle.stream_core.specs.declared.step.Step.TheVariants.{Offer, Advance, OpenAt, CopyRows, Close, Restart}
 use Rattle.source_feed.specs.declared.fault.FeedFault.{FeedFault}
 use Rattle.source_feed.specs.Planned.{FeedValue}
 use Rattle.source_feed.specs.Touches.{PreparedValue, prepared_at}
 use Rattle.board_laws.specs.declared.answer.Answer.{Answer}
-use Rattle.board_laws.specs.declared.refusal.Refusal.{Refusal}
 use Rattle.board_laws.specs.declared.step_refusal.StepRefusal.{StepRefusal}
 use Rattle.board_laws.specs.Event.{Event, offer, advance}
-use Rattle.board_laws.specs.FedBoards.{Fed, IsFedBoard}
+use Rattle.board_laws.specs.FedBoards.{Fed}
 use Rattle.board_laws.specs.Lawful.{IsLawful}
 use Rattle.board_laws.specs.Meaning.{State, Meaning}
 use Rattle.board_laws.specs.Runs.{event_of_step}
@@ -26,10 +23,10 @@ use Rattle.board_laws.specs.StateAfter.{state_after}
 use Rattle.board_laws.specs.Step.{IsMade}
 use Rattle.board_laws.proofs.Following.{unchanged, answered_by}
 use Rattle.board_laws.proofs.Lists.{slice_get-set}
-use Rattle.change_laws.specs.Since.{HasGoneOn, HaveGoneOn, GoesOnBy, HasMoved}
+use Rattle.change_laws.specs.Since.{GoesOnBy, HasMoved}
 use Rattle.change_laws.proofs.GoingOn.{stands-still, step-moves, others-stand, moves-add_up, moved-goes_on}
 use Rattle.worker_rounds.specs.Rounds.{IsStopped, ApplyUpTo}
-use Rattle.worker_rounds.specs.Private.OnRound.{Gone, IsOnRound, Runs, MayApply, IsStepOn, AreAsideOf, AppliesOne, applied_on}
+use Rattle.worker_rounds.specs.Private.OnRound.{Gone, IsOnRound, Runs, MayApply, IsStepOn, AreAsideOf, AppliesOne}
 
 -- ---- how many groups are applied
 

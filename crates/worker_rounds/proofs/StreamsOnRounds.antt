@@ -1,5 +1,5 @@
 -- What is so of one stream of a board on its round.
-use Rattle.std.proofs.Common.{◌≡◌, ◌≢◌, ◌⊎◌, inl, inr, ℕ, suc, ◌+◌, ◌^◌, ◌<◌, ◌≤◌, Bool, true, false, List, [], ◌∷◌, ◌++◌, length, map, take, get_or, Option, Some, None, Result, Ok, Err, slice_get, set, refl, sym, ap, subst, ◌∙◌, arith}
+use Rattle.std.proofs.Common.{◌≡◌, inl, ℕ, suc, ◌+◌, ◌^◌, ◌<◌, ◌≤◌, Bool, true, false, List, [], ◌∷◌, ◌++◌, length, map, take, get_or, Option, Some, None, Ok, Err, slice_get, refl, sym, ap, subst, ◌∙◌, arith}
 use Rattle.std.proofs.lemmas.Bool.{true≢false}
 use Rattle.std.proofs.lemmas.List.{length-map, map-append, take_more}
 use Rattle.std.proofs.lemmas.Option.{same_Some, none-some, slice_get-map, slice_get_read, slice_get_within, get_or_from_slice_get}
@@ -20,7 +20,7 @@ use Rattle.board_laws.proofs.FedBoards.{run-fed}
 use Rattle.change_laws.specs.Since.{HasGoneOn, HaveGoneOn}
 use Rattle.change_laws.proofs.GoingOn.{moved-goes_on}
 use Rattle.worker_rounds.specs.Rounds.{OfStream, HasAppliedAll}
-use Rattle.worker_rounds.specs.Private.OnRound.{Gone, IsOnRound, Runs, IsStopAt, IsStoppedIn, MayApply, IsStepOn, AreAsideOf, AppliesNone, AppliesOne, IsThrough, MayTakeIn, applied_on}
+use Rattle.worker_rounds.specs.Private.OnRound.{Gone, IsOnRound, Runs, IsStopAt, IsStoppedIn, MayApply, IsStepOn, AppliesNone, AppliesOne, IsThrough, MayTakeIn}
 use Rattle.worker_rounds.proofs.StepsOnRounds.{offer-applies_none, advance-applies_one}
 
 -- ---- a list that is read at a place

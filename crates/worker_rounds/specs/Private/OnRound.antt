@@ -4,10 +4,9 @@ use Rattle.std.specs.Arc.{arc_value}
 use Rattle.pk_copy.specs.KeyOrder.{key_cmp}
 use Rattle.pk_copy.specs.KeyValue.{KeyValue}
 use Rattle.stream_core.specs.declared.step.Step.{Step}
-use Rattle.stream_core.specs.declared.step.Step.TheVariants.{Advance}
 use Rattle.target_tables.specs.Touches.{last_at}
 use Rattle.source_feed.specs.Planned.{FeedValue}
-use Rattle.source_feed.specs.Touches.{PreparedValue, prepared_at}
+use Rattle.source_feed.specs.Touches.{prepared_at}
 use Rattle.board_laws.specs.declared.answer.Answer.{Answer}
 use Rattle.board_laws.specs.declared.step_refusal.StepRefusal.{StepRefusal}
 use Rattle.board_laws.specs.FedBoards.{Fed, IsFedBoard}

@@ -1,4 +1,4 @@
-use Rattle.std.proofs.Common.{List, length, subst, arith}
+use Rattle.std.proofs.Common.{List, subst}
 use Rattle.source_feed.specs.Planned.{FeedValue}
 use Rattle.board_laws.specs.FedBoards.{IsFedBoard}
 use Rattle.board_laws.specs.Meaning.{Meaning}

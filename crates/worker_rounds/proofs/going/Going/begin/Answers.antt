@@ -1,6 +1,5 @@
-use Rattle.std.proofs.Common.{◌≡◌, Some, sym, ap, ◌∙◌}
+use Rattle.std.proofs.Common.{Some, sym, ap, ◌∙◌}
 use Rattle.pk_copy.specs.Marks.{Marks}
-use Rattle.worker_rounds.specs.Private.OnRound.{Gone}
 use Rattle.worker_rounds.proofs.StreamsOnRounds.{not-none, marks-begun}
 use Rattle.worker_rounds.proofs.going.Going.begin.Goals as goal
 

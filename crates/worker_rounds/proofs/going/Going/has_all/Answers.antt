@@ -1,4 +1,4 @@
-use Rattle.std.proofs.Common.{◌<◌, List, length, ap, subst, arith}
+use Rattle.std.proofs.Common.{List, length, ap, subst, arith}
 use Rattle.source_feed.specs.Planned.{FeedValue}
 use Rattle.worker_rounds.specs.Rounds.{OfStream, HasAppliedAll}
 use Rattle.worker_rounds.specs.Private.OnRound.{Gone}

@@ -1,4 +1,4 @@
-use Rattle.std.proofs.Common.{◌≡◌, ◌+◌, ◌<◌, ◌≤◌, ℕ, List, length, Some, slice_get, sym, ap, subst, arith}
+use Rattle.std.proofs.Common.{◌≡◌, ◌+◌, ℕ, List, length, Some, slice_get, ap, subst, arith}
 use Rattle.worker_rounds.specs.Rounds.{OfStream}
 use Rattle.worker_rounds.specs.Private.OnRound.{Gone, MayApply}
 use Rattle.worker_rounds.proofs.StreamsOnRounds.{not-none, first-count, may-yes, may-no}

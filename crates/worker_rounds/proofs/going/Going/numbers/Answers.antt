@@ -1,7 +1,6 @@
 use Rattle.std.proofs.Common.{length, refl, arith}
 use Rattle.stream_core.specs.Standing.{Standing}
 use Rattle.board_laws.specs.Meaning.{State}
-use Rattle.worker_rounds.specs.Private.OnRound.{Gone}
 use Rattle.worker_rounds.proofs.StreamsOnRounds.{not-none, read-short, number-seen}
 use Rattle.worker_rounds.proofs.going.Going.numbers.Goals as goal
 

@@ -1,6 +1,5 @@
 use Rattle.std.proofs.Common.{subst}
 use Rattle.std.specs.List.{AllByRecursion}
-use Rattle.std.specs.Vec.Iter.{into_iter_items}
 use Rattle.worker_rounds.specs.Private.OnRound.{IsReady}
 use Rattle.worker_rounds.proofs.going.Going.take_in_all.Goals as goal
 
