@@ -75,11 +75,11 @@ told_both s (g ∷ one) more old x y e f =
     let rest : groups_told s (one ++ more) a.0.1 ≡ Ok (b.0.0 ++ y.0, y.1) = told_both s one more a.0.1 b.0 y b.1 at in
     rw (a.1, rest) (ap (λ (ms : List (List EventValue)). Ok (ms, y.1)) (sym (append_assoc a.0.0 b.0.0 y.0) ∙ ap (λ (m : Messages). m.0 ++ y.0) is))
 
-rising_both : (reached : List Interval) (one more : List PlacedValue) → AreRising reached one → AreRising (reached_by reached one) more → AreRising reached (one ++ more)
+pub rising_both : (reached : List Interval) (one more : List PlacedValue) → AreRising reached one → AreRising (reached_by reached one) more → AreRising reached (one ++ more)
 rising_both reached [] more a b = b
 rising_both reached (g ∷ one) more a b = (a.0, rising_both g.position one more a.1 b)
 
-canonical_by : (reached : List Interval) (one : List PlacedValue) → IsCanonical reached → AreRising reached one → IsCanonical (reached_by reached one)
+pub canonical_by : (reached : List Interval) (one : List PlacedValue) → IsCanonical reached → AreRising reached one → IsCanonical (reached_by reached one)
 canonical_by reached [] c a = c
 canonical_by reached (g ∷ one) c a = canonical_by g.position one a.0.canonical a.1
 
@@ -91,11 +91,11 @@ record AreRun (s : SourceTables) (logs : List (List ℕ)) (old : Far) (x : Messa
   rising : AreRising old.reached transactions
   told : groups_told s transactions old ≡ Ok x
 
-of_course_given : {A : Type 0} (file : ℕ) (r : Result A CourseFault) (x : A) → of_course file r ≡ Ok x → r ≡ Ok x
+pub of_course_given : {A : Type 0} (file : ℕ) (r : Result A CourseFault) (x : A) → of_course file r ≡ Ok x → r ≡ Ok x
 of_course_given file (Ok y) x e = ap Ok (same_value y x e)
 of_course_given file (Err fault) x e = cc
 
-of_tell_given : {A : Type 0} (file : ℕ) (r : Result A TellFault) (x : A) → of_tell file r ≡ Ok x → r ≡ Ok x
+pub of_tell_given : {A : Type 0} (file : ℕ) (r : Result A TellFault) (x : A) → of_tell file r ≡ Ok x → r ≡ Ok x
 of_tell_given file (Ok y) x e = ap Ok (same_value y x e)
 of_tell_given file (Err fault) x e = cc
 
@@ -136,7 +136,7 @@ absent_at zero place = refl
 absent_at (suc n) zero = refl
 absent_at (suc n) (suc place) = absent_at n place
 
-not_filled : {P : Type 0} → Absent ≡ Filled → P
+pub not_filled : {P : Type 0} → Absent ≡ Filled → P
 not_filled e = cc
 
 at_first : (s : SourceTables) → TellsSoFar s [] (nothing_told s)

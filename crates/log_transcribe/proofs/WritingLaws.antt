@@ -38,14 +38,14 @@ use Rattle.log_transcribe.specs.Private.Bytes.{tell_meant, course_error_at, chan
 
 -- ---- messages one behind another
 
-written_both : (one more : List (List EventValue)) → written (one ++ more) ≡ written one ++ written more
+pub written_both : (one more : List (List EventValue)) → written (one ++ more) ≡ written one ++ written more
 written_both one more =
     ap (λ (ms : List (List (List ℕ))). written_messages ms) (map-append in_bytes one more) ∙ flat_map-append (λ (events : List (List ℕ)). framed (written_response events)) (map in_bytes one) (map in_bytes more)
 
-put_both : (out : List ℕ) (one more : List (List EventValue)) → out ++ written (one ++ more) ≡ (out ++ written one) ++ written more
+pub put_both : (out : List ℕ) (one more : List (List EventValue)) → out ++ written (one ++ more) ≡ (out ++ written one) ++ written more
 put_both out one more = ap (λ (b : List ℕ). out ++ b) (written_both one more) ∙ sym (append_assoc out (written one) (written more))
 
-same_told : {A F : Type 0} (x y : A) → ◌≡◌ {A = Result A F} (Ok x) (Ok y) → x ≡ y
+pub same_told : {A F : Type 0} (x y : A) → ◌≡◌ {A = Result A F} (Ok x) (Ok y) → x ≡ y
 same_told x y e = cc
 
 -- ---- a transaction
@@ -293,7 +293,7 @@ feed-put view (Err (logs_error.Fault fault)) s logs n out far many e put = feed_
 
 -- ---- its length
 
-told_so : (r : Result (List (List EventValue)) LogsFault) (feed : List ℕ) → bytes_told r ≡ Ok feed → (messages : List (List EventValue)) × (r ≡ Ok messages) × (written messages ≡ feed)
+pub told_so : (r : Result (List (List EventValue)) LogsFault) (feed : List ℕ) → bytes_told r ≡ Ok feed → (messages : List (List EventValue)) × (r ≡ Ok messages) × (written messages ≡ feed)
 told_so (Ok messages) feed e = (messages, refl, same_told (written messages) feed e)
 told_so (Err fault) feed e = cc
 
