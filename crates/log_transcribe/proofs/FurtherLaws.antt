@@ -119,7 +119,7 @@ logs_on laws s had file (bytes ∷ logs) a x c e =
     let rising : AreRising a.logs r.items = laws.rise a.logs bytes r c course in
     let reached : one.0.1.logs ≡ reached_by a.logs r.items = on_reaches s had r.items a one.0 told.1 in
     let mid : IsCanonical one.0.1.logs = subst IsCanonical (sym reached) (canonical_by a.logs r.items c rising) in
-    let rest : AreOn s had logs one.0.1 others.0 = logs_on laws s (file + 1) logs one.0.1 others.0 mid others.1 in
+    let rest : AreOn s had logs one.0.1 others.0 = logs_on laws s had (file + 1) logs one.0.1 others.0 mid others.1 in
     let is_course : IsCourse a.logs bytes (record { items = r.items; fault = None }) =
     subst (λ (f : Option CourseFault). IsCourse a.logs bytes (record { items = r.items; fault = f })) told.0 (laws.courses.spelled a.logs bytes r course) in
     record {
@@ -259,7 +259,7 @@ module _ (laws : BehindLaws) (s : SourceTables) (right : IsSource s) (had : List
         said = rest.said ∙ ap (λ (r : List Interval). said_by s m.1.said (further r groups)) n.reached ∙ ap (λ (b : Bool). said_by s b (further all groups)) n.said ∙ ap (said_by s a.far.said) those;
       }
 
-  pub sequels : (past : PastEvents) (transactions : List PlacedValue) (a : Along) (x : Going) → TellsSoFar s past a.far → IsCanonical a.logs → IsWithin a.logs a.far.reached → AreRising a.logs transactions → TellOn s had transactions a x → Sequels past transactions a x
+  sequels : (past : PastEvents) (transactions : List PlacedValue) (a : Along) (x : Going) → TellsSoFar s past a.far → IsCanonical a.logs → IsWithin a.logs a.far.reached → AreRising a.logs transactions → TellOn s had transactions a x → Sequels past transactions a x
   sequels past [] a x t c within rising is = subst (Sequels past [] a) is (record {
     told = subst (λ (gs : List GroupValue). TellGroups s past gs [] a.far) (sym (none_read (next_number s past))) (nothing_more past a.far t);
     whole = tt;

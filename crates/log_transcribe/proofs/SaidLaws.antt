@@ -1,6 +1,7 @@
 -- What a feed says of tables, one event further; and that it has the columns of those that had rows.
 use Rattle.std.proofs.Common.{◌≡◌, ◌≢◌, ℕ, ◌+◌, ◌-◌, ◌<◌, ◌≤◌, Bool, true, false, cond, List, [], ◌∷◌, ◌++◌, map, reverse, set, Option, None, Some, Ok, Err, refl, sym, ap, subst, ◌∙◌, inl, inr, arith}
 use Rattle.std.proofs.lemmas.Bool.{cases_Bool, cases_eq, cond-true, cond-false, false≢true}
+use Rattle.std.proofs.lemmas.Bool.Decides.{nat_tests}
 use Rattle.std.proofs.lemmas.Slice.Eq.{bytes_eq-Decides}
 use Rattle.std.specs.Prelude.{◌&&◌, ◌==◌, if◌then◌else◌}
 use Rattle.std.specs.Str.{bytes_eq}
@@ -22,7 +23,7 @@ use Rattle.log_laws.proofs.StageLaws.{own_name, same_table, rows_filled}
 use Rattle.log_transcribe.specs.Said.{said_there, event_said, events_said}
 
 same_number : (a b : ℕ) → (a == b) ≡ true → a ≡ b
-same_number a b e = omega (arith, e)
+same_number a b e = grind (arith, nat_tests)
 
 same_field : (column field : FieldValue) → same_column column field ≡ true → column ≡ field
 same_field column field e = by (bytes_eq column.name field.name) (column.type_number == field.type_number) refl refl e
@@ -37,12 +38,12 @@ same_fields : (columns fields : List FieldValue) → same_columns columns fields
 same_fields [] [] e = refl
 same_fields [] (f ∷ fields) e = cc
 same_fields (c ∷ columns) [] e = cc
-same_fields (c ∷ columns) (f ∷ fields) e = by (same_column c f) (same_columns columns fields) refl refl e
+same_fields (c ∷ columns) (f ∷ fields) e = by (same_column c f) (same_columns columns fields) refl refl (λ others. same_fields columns fields others) e
   where
-    by : (x y : Bool) → same_column c f ≡ x → same_columns columns fields ≡ y → (x && y) ≡ true → c ∷ columns ≡ f ∷ fields
-    by true true one rest h = ap (λ (x : FieldValue). x ∷ columns) (same_field c f one) ∙ ap (λ (xs : List FieldValue). f ∷ xs) (same_fields columns fields rest)
-    by true false one rest h = cc
-    by false y one rest h = cc
+    by : (x y : Bool) → same_column c f ≡ x → same_columns columns fields ≡ y → (same_columns columns fields ≡ true → columns ≡ fields) → (x && y) ≡ true → c ∷ columns ≡ f ∷ fields
+    by true true one rest behind h = ap (λ (x : FieldValue). x ∷ columns) (same_field c f one) ∙ ap (λ (xs : List FieldValue). f ∷ xs) (behind rest)
+    by true false one rest behind h = cc
+    by false y one rest behind h = cc
 
 module _ (s : SourceTables) where
   abbrev source : SourceValue
@@ -56,7 +57,7 @@ module _ (s : SourceTables) where
 
   there_further : (past : PastEvents) (stages new : List Stage) (name : List ℕ) (columns : List FieldValue) (found : Option (ℕ × TableValue)) → table_of (table_in_source source name) s.tables ≡ found
       → said_there columns stages found ≡ Ok new → SaysColumns s past stages → SaysColumns s (Field name columns ∷ past) new
-  there_further past stages new name columns None is e said own place table here filled = elim (cases_Bool (bytes_eq (table_in_source source name) table.name)) [
+  there_further past stages new name columns None is e said = λ own place table here filled. elim (cases_Bool (bytes_eq (table_in_source source name) table.name)) [
     | inl same ↦
         let named : table_in_source source name ≡ own = same_text (table_in_source source name) table.name (sym same) ∙ own_name place own s.tables table here in
         none_some (place, table) (sym is ∙ ap (λ (n : List ℕ). table_of n s.tables) named ∙ here)

@@ -53,6 +53,14 @@ fn clashes_with_any(before: &[Interval], one: &Interval, position: &[Interval]) 
     position.iter().any(|other| clashes(before, one, other))
 }
 
+/// One of the intervals shares such numbers with one of the others.
+fn any_clashes(had: &[Interval], before: &[Interval], position: &[Interval]) -> bool
+    ensures { result ≡ list_any (λ one. list_any (λ other. clashes before.now one other) position.now) had.now }
+{
+    had.iter()
+        .any(|one| clashes_with_any(before, one, position))
+}
+
 /// A position has numbers of the transaction between two positions of a log.
 pub(crate) fn overlaps(had: &GtidSet, before: &GtidSet, position: &GtidSet) -> bool
     ensures { result ≡ overlaps had.now before.now position.now }
@@ -60,8 +68,5 @@ pub(crate) fn overlaps(had: &GtidSet, before: &GtidSet, position: &GtidSet) -> b
     if had.is_within(before) {
         return false;
     }
-    let (before, position) = (before.intervals(), position.intervals());
-    had.intervals()
-        .iter()
-        .any(|one| clashes_with_any(before, one, position))
+    any_clashes(had.intervals(), before.intervals(), position.intervals())
 }
