@@ -1,9 +1,9 @@
 -- The feed of logs has just the groups of their transactions.
-use Rattle.std.proofs.Common.{◌≡◌, ℕ, zero, suc, ◌+◌, ◌<◌, ◌^◌, Bool, true, false, nat_lt, List, [], ◌∷◌, ◌++◌, length, map, reverse, replicate, get_or, Option, None, Some, Result, Ok, Err, refl, sym, ap, subst, ◌∙◌, arith, append_assoc, length-append}
+use Rattle.std.proofs.Common.{◌≡◌, ℕ, zero, suc, ◌+◌, ◌<◌, ◌^◌, Bool, true, false, nat_lt, List, [], ◌∷◌, ◌++◌, length, reverse, replicate, get_or, Option, None, Some, Result, Ok, Err, refl, sym, ap, subst, ◌∙◌, arith, append_assoc}
 use Rattle.std.proofs.lemmas.Bool.{ltb-true, false≢true}
 use Rattle.std.proofs.lemmas.List.{append-nil, reverse-append}
 use Rattle.std.proofs.lemmas.List.Concat.{flat_map-append}
-use Rattle.std.specs.List.{AllByRecursion, flat_map}
+use Rattle.std.specs.List.{AllByRecursion}
 use Rattle.list_laws.proofs.Fronts.{All-append}
 use Rattle.list_laws.specs.Outcome.{◌>>=◌}
 use Rattle.item_readers.specs.Reading.{Reading}
@@ -18,17 +18,15 @@ use Rattle.source_feed.specs.Groups.{groups_of, first_fault, groups}
 use Rattle.event_laws.specs.Laws.{HaveEvents}
 use Rattle.log_course.specs.declared.fault.CourseFault.{CourseFault}
 use Rattle.log_course.specs.Course.{PlacedValue, IsCourse, course_at, CoursesAreRead}
-use Rattle.log_feed.specs.declared.table.Stage.{Stage}
 use Rattle.log_feed.specs.declared.table.Stage.TheVariants.{Absent, Filled}
-use Rattle.log_feed.specs.Group.{Told, told_of_all}
+use Rattle.log_feed.specs.Group.{told_of_all}
 use Rattle.log_laws.specs.declared.fault.TellFault.{TellFault}
 use Rattle.log_laws.specs.Source.{SourceTables, IsSource, source_of}
 use Rattle.log_laws.specs.Transcript.{Far, Messages, of_changes, messages_with, has_events, group_told, groups_told, last_told, written}
-use Rattle.log_laws.specs.Read.{groups_read, last_read, reached_by, said_by}
+use Rattle.log_laws.specs.Read.{groups_read, last_read, reached_by}
 use Rattle.log_laws.specs.Far.{TellsSoFar, AreRising}
 use Rattle.log_laws.specs.Laws.{events_in, behind, next_number, TellGroups, ReachesSoFar, TransactionsAreTold, TransactionsReach, EndsAreTold, CoursesRise, MessagesAreRead, FeedsHaveTheirGroups}
 use Rattle.log_laws.proofs.Steps.{given, given_if, same_value}
-use Rattle.log_transcribe.specs.declared.fault.LogsFault.{LogsFault}
 use Rattle.log_transcribe.specs.declared.fault.LogsFault.TheVariants.{TooLong}
 use Rattle.log_transcribe.specs.Fault.{of_course, of_tell}
 use Rattle.log_transcribe.specs.Transcript.{up_to, course_told, log_told, logs_told, nothing_told, feed_told, short_feed, feed_of_logs}

@@ -1,44 +1,32 @@
 -- Further messages put behind bytes, one transaction and one file further.
-use Rattle.std.proofs.Common.{◌≡◌, ℕ, suc, ◌+◌, ◌-◌, ◌<◌, ◌≤◌, ◌^◌, Bool, true, false, nat_lt, List, [], ◌∷◌, ◌++◌, length, map, drop, get_or, Option, None, Some, Result, Ok, Err, refl, sym, ap, subst, ◌∙◌, arith}
-use Rattle.std.proofs.lemmas.Bool.{cond-true, cond-false, lt-ltb, le-ltb}
+use Rattle.std.proofs.Common.{◌≡◌, ℕ, suc, ◌+◌, ◌<◌, ◌≤◌, true, List, [], ◌∷◌, ◌++◌, length, map, drop, get_or, Option, None, Some, Result, Ok, Err, refl, sym, ap, ◌∙◌, arith}
 use Rattle.std.proofs.lemmas.List.{append-nil, at_drop_more, at_drop_all}
 use Rattle.list_laws.specs.Outcome.{◌>>=◌, Refuses, GivesUnless}
 use Rattle.item_readers.specs.Reading.{Reading}
 use Rattle.gtid_set.specs.declared.interval.Interval.{Interval}
-use Rattle.gtid_set.specs.Position.{within_of}
-use Rattle.log_places.specs.declared.fault.PlaceFault.TheVariants.{GoesBack}
-use Rattle.log_course.specs.declared.fault.CourseFault.TheVariants.{Place}
-use Rattle.log_feed.specs.declared.fault.ChangeFault.{ChangeFault}
-use Rattle.log_feed.specs.declared.fault.ChangeError as change_errors
-use Rattle.log_feed.specs.declared.fault.ChangeError.TheVariants as change_error
-use Rattle.log_feed.specs.Fault as changes
-use Rattle.log_laws.specs.declared.fault.TellFault.TheVariants as tell_fault
 use Rattle.vevent.specs.EventValue.{EventValue}
 use Rattle.log_course.specs.declared.fault.CourseFault.{CourseFault}
 use Rattle.log_course.specs.declared.fault.CourseError as course_errors
 use Rattle.log_course.specs.declared.fault.CourseError.TheVariants as course_error
-use Rattle.log_course.specs.Fault as course_fault
-use Rattle.log_course.specs.Course.{PlacedValue, course_at}
+use Rattle.log_course.specs.Course.{PlacedValue}
 use Rattle.log_course.specs.Calls.{CourseValue, NextPlaced}
 use Rattle.log_laws.specs.declared.fault.TellFault.{TellFault}
 use Rattle.log_feed.specs.declared.table.Stage.{Stage}
 use Rattle.log_laws.specs.Source.{SourceTables}
-use Rattle.log_laws.specs.Transcript.{Far, Messages, group_told, last_told, written}
+use Rattle.log_laws.specs.Transcript.{Messages, last_told, written}
 use Rattle.log_transcribe.specs.declared.fault.LogsFault.{LogsFault}
-use Rattle.log_transcribe.specs.declared.fault.LogsFault.TheVariants.{Course, Tell, TooLong}
 use Rattle.log_transcribe.specs.declared.fault.LogsError.{LogsError}
 use Rattle.log_transcribe.specs.declared.fault.LogsError.TheVariants as logs_error
 use Rattle.source_feed.specs.declared.fault.FeedFault.{FeedFault}
 use Rattle.source_feed.specs.declared.fault.FeedFault.TheVariants as feed_fault
 use Rattle.source_feed.specs.FaultNumber.{meant_of}
 use Rattle.log_transcribe.specs.declared.fault.BehindFault.{BehindFault}
-use Rattle.log_transcribe.specs.Fault.{meant, of_course, of_tell, of_feed, of_logs, behind_meant, feed_error, logs_error as error_of}
+use Rattle.log_transcribe.specs.Fault.{meant, of_tell, of_feed, of_logs, behind_meant, feed_error, logs_error as error_of}
 use Rattle.log_transcribe.specs.Said.{feed_end, feed_said}
-use Rattle.log_transcribe.specs.Behind.{Along, Going, going_to, changes_had, passed_far, moved, told_far, taken_far, group_behind, end_behind, groups_behind, log_behind, logs_behind, begun, unsaid, along_of, behind_told, short_behind, bytes_behind, behind_of_logs}
-use Rattle.log_transcribe.specs.Private.Bytes.{course_error_at, change_error_at, with_messages, last_with, bytes_told}
-use Rattle.log_transcribe.specs.Apart.{overlaps}
+use Rattle.log_transcribe.specs.Behind.{Along, Going, going_to, taken_far, group_behind, end_behind, groups_behind, log_behind, logs_behind, begun, unsaid, along_of, behind_told, bytes_behind, behind_of_logs}
+use Rattle.log_transcribe.specs.Private.Bytes.{course_error_at, with_messages, last_with, bytes_told}
 use Rattle.log_transcribe.specs.Private.Goes.{with_going, rest_told, GoesNext}
-use Rattle.log_transcribe.proofs.WritingLaws.{written_both, put_both, same_told, told_so}
+use Rattle.log_transcribe.proofs.WritingLaws.{written_both, put_both, same_told}
 
 abbrev Gone : Type 0
 Gone = Result (List ℕ × Along) LogsFault
@@ -62,50 +50,6 @@ wrong (Ok x) rest out fault e = cc
 
 module _ (file : ℕ) (s : SourceTables) (had : List Stage) where
   -- ---- a transaction
-
-  passed_put : (g : PlacedValue) (far : Far) (out : List ℕ) → changes_had s had g.changes ≡ Ok tt → with_messages (of_tell file (passed_far s had g far)) out ≡ Ok (out, far)
-  passed_put g far out e = rw e (ap (λ (b : List ℕ). Ok (b, far)) (append-nil out))
-
-  passed_unput : (g : PlacedValue) (far : Far) (out : List ℕ) (fault : ChangeFault) → changes_had s had g.changes ≡ Err fault → with_messages (of_tell file (passed_far s had g far)) out ≡ Err (Tell file (tell_fault.Change fault))
-  passed_unput g far out fault e = rw e refl
-
-  inside_is : (before : List Interval) (g : PlacedValue) (far : Far) → within_of g.position far.reached ≡ true → taken_far file s had before g far ≡ of_tell file (passed_far s had g far)
-  inside_is before g far e = cond-true (within_of g.position far.reached) (of_tell file (passed_far s had g far)) (told_far file s before g far) e
-
-  -- one that the feed has
-  pub taken-had : (before : List Interval) (g : PlacedValue) (far : Far) (out : List ℕ) → within_of g.position far.reached ≡ true → changes_had s had g.changes ≡ Ok tt → with_messages (taken_far file s had before g far) out ≡ Ok (out, far)
-  taken-had before g far out inside e = ap (λ (r : Result Messages LogsFault). with_messages r out) (inside_is before g far inside) ∙ passed_put g far out e
-
-  pub taken-unhad : (before : List Interval) (g : PlacedValue) (far : Far) (out : List ℕ) (error : change_errors.ChangeError) → within_of g.position far.reached ≡ true → Refuses changes.meant error (changes_had s had g.changes)
-      → Refuses meant (change_error_at file error) (with_messages (taken_far file s had before g far) out)
-  taken-unhad before g far out change_error.Memory inside e = tt
-  taken-unhad before g far out (change_error.Fault fault) inside e = ap (λ (r : Result Messages LogsFault). with_messages r out) (inside_is before g far inside) ∙ passed_unput g far out fault e
-
-  -- one that it doesn't have
-  pub taken-new : {U : Type 0} (before : List Interval) (g : PlacedValue) (far next_far : Far) (out next : List ℕ) (answer : Result U LogsError) → within_of g.position far.reached ≡ false
-      → GivesUnless meant (λ x. (next, next_far)) answer (with_messages (told_far file s before g far) out) → GivesUnless meant (λ x. (next, next_far)) answer (with_messages (taken_far file s had before g far) out)
-  taken-new before g far next_far out next answer beyond e =
-      subst (λ (r : Result Messages LogsFault). GivesUnless meant (λ x. (next, next_far)) answer (with_messages r out))
-      (sym (cond-false (within_of g.position far.reached) (of_tell file (passed_far s had g far)) (told_far file s before g far) beyond)) e
-
-  pub told-clash : (before : List Interval) (g : PlacedValue) (far : Far) (out : List ℕ) → overlaps far.reached before g.position ≡ true → with_messages (told_far file s before g far) out ≡ Err (Course file (Place GoesBack))
-  told-clash before g far out e =
-      ap (λ (r : Result Messages LogsFault). with_messages r out) (cond-true (overlaps far.reached before g.position) (Err (Course file (Place GoesBack))) (of_tell file (group_told s (moved far.reached g) far)) e)
-
-  pub told-apart : {U : Type 0} (before : List Interval) (g : PlacedValue) (far next_far : Far) (out next : List ℕ) (answer : Result U LogsError) → overlaps far.reached before g.position ≡ false
-      → GivesUnless meant (λ x. (next, next_far)) answer (with_messages (of_tell file (group_told s (moved far.reached g) far)) out) → GivesUnless meant (λ x. (next, next_far)) answer (with_messages (told_far file s before g far) out)
-  told-apart before g far next_far out next answer alone e =
-      subst (λ (r : Result Messages LogsFault). GivesUnless meant (λ x. (next, next_far)) answer (with_messages r out))
-      (sym (cond-false (overlaps far.reached before g.position) (Err (Course file (Place GoesBack))) (of_tell file (group_told s (moved far.reached g) far)) alone)) e
-
-  pub group-went : (g : PlacedValue) (a : Along) (far : Far) (out next : List ℕ) → with_messages (taken_far file s had a.logs g a.far) out ≡ Ok (next, far) → with_going (group_behind file s had g a) out ≡ Ok (next, record { far = far; logs = g.position })
-  group-went g a far out next e = by (taken_far file s had a.logs g a.far) e
-    where
-      by : (r : Result Messages LogsFault) → with_messages r out ≡ Ok (next, far) → with_going (r >>= λ x. Ok (going_to g.position x)) out ≡ Ok (next, record { far = far; logs = g.position })
-      by (Err fault) h = cc
-      by (Ok x) h =
-          let both : ◌≡◌ {A = List ℕ × Far} (out ++ written x.0, x.1) (next, far) = same_told (out ++ written x.0, x.1) (next, far) h in
-          ap (λ (p : List ℕ × Far). Ok (p.0, record { far = p.1; logs = g.position })) both
 
   pub group-stopped : (g : PlacedValue) (a : Along) (out : List ℕ) (error : LogsError) → Refuses meant error (with_messages (taken_far file s had a.logs g a.far) out) → Refuses meant error (with_going (group_behind file s had g a) out)
   group-stopped g a out logs_error.Memory e = tt
@@ -142,45 +86,6 @@ module _ (file : ℕ) (s : SourceTables) (had : List Stage) where
   pub fault-went : (old new : CourseValue) (error : course_errors.CourseError) (a : Along) (out : List ℕ) → NextPlaced old (Err error) new → Refuses meant (course_error_at file error) (rest_told file s had old.groups a out)
   fault-went old new course_error.Memory a out last = tt
   fault-went old new (course_error.Fault fault) a out last = ap (λ (r : Result Going LogsFault). with_going r out) (course_ends old.groups a (Some fault) last.0 last.1)
-
-  -- ---- all of them
-
-  pub loop-end : (old new : Reading PlacedValue CourseFault) (a next_a : Along) (out next : List ℕ) (more : Bool) (all : Gone) → more ≡ false → GoesNext file s had old (Ok more) new a next_a out next
-      → rest_told file s had old a out ≡ all → all ≡ Ok (next, next_a)
-  loop-end old new a next_a out next true all is e seen = cc
-  loop-end old new a next_a out next false all is e seen = sym seen ∙ e
-
-  pub loop-further : (old new : Reading PlacedValue CourseFault) (a next_a : Along) (out next : List ℕ) (more : Bool) (all : Gone) → more ≡ true → GoesNext file s had old (Ok more) new a next_a out next
-      → rest_told file s had old a out ≡ all → rest_told file s had new next_a next ≡ all
-  loop-further old new a next_a out next false all is e seen = cc
-  loop-further old new a next_a out next true all is e seen = sym e.0 ∙ seen
-
-  pub loop-less : (old new : Reading PlacedValue CourseFault) (a next_a : Along) (out next : List ℕ) (more : Bool) → more ≡ true → GoesNext file s had old (Ok more) new a next_a out next → length new.items < length old.items
-  loop-less old new a next_a out next false is e = cc
-  loop-less old new a next_a out next true is e = e.1
-
-  pub loop-wrong : (old new : Reading PlacedValue CourseFault) (a next_a : Along) (out next : List ℕ) (error : LogsError) (all : Gone) → GoesNext file s had old (Err error) new a next_a out next
-      → rest_told file s had old a out ≡ all → Refuses meant error all
-  loop-wrong old new a next_a out next logs_error.Memory all e seen = tt
-  loop-wrong old new a next_a out next (logs_error.Fault fault) all e seen = sym seen ∙ e
-
-  -- ---- a file
-
-  read_so : (bytes : List ℕ) (a : Along) (reached : List Interval) (r : Result (Reading PlacedValue CourseFault) CourseFault) → reached ≡ a.logs → course_at reached bytes ≡ r
-      → log_behind file s had bytes a ≡ of_course file r >>= λ r. groups_behind file s had r.items r.fault a
-  read_so bytes a reached r same e =
-      ap (λ (r : Result (Reading PlacedValue CourseFault) CourseFault). of_course file r >>= λ r. groups_behind file s had r.items r.fault a) (ap (λ (at_first : List Interval). course_at at_first bytes) (sym same) ∙ e)
-
-  pub log-went : {U : Type 0} (bytes : List ℕ) (r : Reading PlacedValue CourseFault) (a next_a : Along) (reached : List Interval) (out next : List ℕ) (answer : Result U LogsError) → reached ≡ a.logs → course_at reached bytes ≡ Ok r
-      → GivesUnless meant (λ x. (next, next_a)) answer (rest_told file s had r a out) → GivesUnless meant (λ x. (next, next_a)) answer (with_going (log_behind file s had bytes a) out)
-  log-went bytes r a next_a reached out next (Ok x) same e put = ap (λ (m : Result Going LogsFault). with_going m out) (read_so bytes a reached (Ok r) same e) ∙ put
-  log-went bytes r a next_a reached out next (Err logs_error.Memory) same e put = tt
-  log-went bytes r a next_a reached out next (Err (logs_error.Fault fault)) same e put = ap (λ (m : Result Going LogsFault). with_going m out) (read_so bytes a reached (Ok r) same e) ∙ put
-
-  pub log-stopped : (bytes : List ℕ) (a : Along) (reached : List Interval) (out : List ℕ) (error : course_errors.CourseError) → reached ≡ a.logs → Refuses course_fault.meant error (course_at reached bytes)
-      → Refuses meant (course_error_at file error) (with_going (log_behind file s had bytes a) out)
-  log-stopped bytes a reached out course_error.Memory same e = tt
-  log-stopped bytes a reached out (course_error.Fault fault) same e = ap (λ (m : Result Going LogsFault). with_going m out) (read_so bytes a reached (Err fault) same e)
 
 -- ---- files
 
@@ -240,39 +145,6 @@ module _ (s : SourceTables) (had : List Stage) where
   behind-put view (Ok x) logs a next_a n out many e put = all_is logs a next_a n out many e ∙ put
   behind-put view (Err logs_error.Memory) logs a next_a n out many e put = tt
   behind-put view (Err (logs_error.Fault fault)) logs a next_a n out many e put = all_is logs a next_a n out many e ∙ put
-
-  pub behind-stopped : (logs : List (List ℕ)) (a : Along) (error : LogsError) → Refuses meant error (with_going (logs_behind 0 s had logs a) []) → Refuses meant error (bytes_told (behind_told s had a logs))
-  behind-stopped logs a logs_error.Memory e = tt
-  behind-stopped logs a (logs_error.Fault fault) e = by (logs_behind 0 s had logs a) e
-    where
-      by : (r : Result Going LogsFault) → with_going r [] ≡ Err fault → bytes_told (r >>= λ x. of_tell (length logs) (last_told s x.1.far) >>= λ last. Ok (x.0 ++ last)) ≡ Err fault
-      by (Ok x) h = cc
-      by (Err other) h = let same : other ≡ fault = cc in ap (λ (f : LogsFault). Err f) same
-
-  -- ---- the length
-
-  pub short-given : (feed : List ℕ) (a : Along) (logs : List (List ℕ)) (more : List ℕ) → bytes_told (behind_told s had a logs) ≡ Ok more → length feed + length more < 2 ^ 31 → bytes_behind s feed had a logs ≡ Ok more
-  short-given feed a logs more e few =
-      let told = told_so (behind_told s had a logs) more e in
-      ap (λ (r : Whole). r >>= λ messages. short_behind (length logs) (length feed) (written messages)) told.1
-      ∙ ap (short_behind (length logs) (length feed)) told.2
-      ∙ cond-true (nat_lt (length feed + length more) (2 ^ 31)) (Ok more) (Err (TooLong (length logs))) (lt-ltb _ _ few)
-
-  pub short-long : (feed : List ℕ) (a : Along) (logs : List (List ℕ)) (n : ℕ) (more : List ℕ) → n ≡ length logs → bytes_told (behind_told s had a logs) ≡ Ok more → 2 ^ 31 ≤ length feed + length more → bytes_behind s feed had a logs ≡ Err (TooLong n)
-  short-long feed a logs n more many e long =
-      let told = told_so (behind_told s had a logs) more e in
-      ap (λ (r : Whole). r >>= λ messages. short_behind (length logs) (length feed) (written messages)) told.1
-      ∙ ap (short_behind (length logs) (length feed)) told.2
-      ∙ cond-false (nat_lt (length feed + length more) (2 ^ 31)) (Ok more) (Err (TooLong (length logs))) (le-ltb _ _ long)
-      ∙ ap (λ (k : ℕ). Err (TooLong k)) (sym many)
-
-  pub short-refused : (feed : List ℕ) (a : Along) (logs : List (List ℕ)) (error : LogsError) → Refuses meant error (bytes_told (behind_told s had a logs)) → Refuses meant error (bytes_behind s feed had a logs)
-  short-refused feed a logs logs_error.Memory e = tt
-  short-refused feed a logs (logs_error.Fault fault) e = by (behind_told s had a logs) e
-    where
-      by : (r : Whole) → bytes_told r ≡ Err fault → r >>= (λ messages. short_behind (length logs) (length feed) (written messages)) ≡ Err fault
-      by (Ok messages) h = cc
-      by (Err other) h = let same : other ≡ fault = cc in ap (λ (f : LogsFault). Err f) same
 
 -- ---- the feed and the logs together
 

@@ -1,5 +1,5 @@
 -- What is seen of a feed, one event and one message further; and what of a list, one element further.
-use Rattle.std.proofs.Common.{◌≡◌, ◌≢◌, ℕ, suc, ◌+◌, ◌<◌, ◌≤◌, Bool, true, false, List, [], ◌∷◌, ◌++◌, length, map, drop, get_or, Option, None, Some, Result, Ok, Err, IfSome, refl, sym, ap, ◌∙◌, arith}
+use Rattle.std.proofs.Common.{◌≡◌, ℕ, suc, ◌+◌, ◌<◌, ◌≤◌, true, false, List, [], ◌∷◌, ◌++◌, length, map, drop, get_or, Option, None, Some, Result, Ok, Err, IfSome, refl, sym, ap, ◌∙◌, arith}
 use Rattle.std.proofs.lemmas.List.{at_drop_more, at_drop_all}
 use Rattle.std.specs.Str.{bytes_eq}
 use Rattle.list_laws.specs.Outcome.{◌>>=◌, Refuses, GivesUnless}
@@ -9,7 +9,7 @@ use Rattle.vevent.specs.EventValue.{EventValue}
 use Rattle.vevent.specs.Response.{response_of}
 use Rattle.vevent.specs.declared.fault.EventFault.{EventFault}
 use Rattle.source_feed.specs.declared.fault.FeedFault.{FeedFault}
-use Rattle.source_feed.specs.declared.fault.FeedFault.TheVariants.{Frame, Event, NoGroup}
+use Rattle.source_feed.specs.declared.fault.FeedFault.TheVariants.{Frame, Event}
 use Rattle.source_feed.specs.EventList.{end_of_message, fault_of_frame, events_then, events_in_messages}
 use Rattle.source_feed.specs.FaultNumber.{meant_of}
 use Rattle.log_groups.specs.Transaction.{DoneValue}
@@ -20,7 +20,7 @@ use Rattle.log_feed.specs.Fault as change_fault
 use Rattle.log_feed.specs.declared.table.Stage.{Stage}
 use Rattle.log_feed.specs.Table.{TableValue, table_from}
 use Rattle.log_laws.specs.Source.{SourceTables}
-use Rattle.log_transcribe.specs.Said.{reached_at, event_said, events_said, to_end, reading_said}
+use Rattle.log_transcribe.specs.Said.{event_said, events_said, to_end, reading_said}
 use Rattle.log_transcribe.specs.Behind.{change_had, changes_had}
 use Rattle.log_transcribe.specs.Private.Sees.{message_said, messages_said, SeesEvent, SeesMessage}
 
@@ -42,12 +42,6 @@ name-further view tables i name all table lt is other seen =
 
 pub name-nowhere : {T : Type 0} (view : T → TableValue) (tables : List T) (i : ℕ) (name : List ℕ) (all : Option (ℕ × TableValue)) → length tables ≤ i → table_from i name (map view (drop i tables)) ≡ all → None ≡ all
 name-nowhere view tables i name all le seen = sym (at_drop_all (λ ts. table_from i name (map view ts)) tables i le) ∙ seen
-
--- ---- a feed without a group
-
-pub reached-none : (feed : List ℕ) → feed ≢ [] → reached_at None feed ≡ Err (NoGroup 0)
-reached-none [] not_empty = absurd (not_empty refl)
-reached-none (b ∷ feed) not_empty = refl
 
 -- ---- changes that the feed has
 
@@ -115,21 +109,6 @@ module _ (s : SourceTables) where
   pub events-wrong : (old : Reading EventValue EventFault) (stages : List Stage) (fault : EventFault) → old.items ≡ [] → old.fault ≡ Some fault → message_said s old stages ≡ Err (Event fault)
   events-wrong old stages fault none is = message_end old stages (Some fault) none is
 
-  pub event-loop-end : (old new : Reading EventValue EventFault) (stages next : List Stage) (more : Bool) (all : Result (List Stage) FeedFault) → more ≡ false → SeesEvent s old (Ok more) new stages next → message_said s old stages ≡ all → all ≡ Ok next
-  event-loop-end old new stages next true all is e seen = cc
-  event-loop-end old new stages next false all is e seen = sym seen ∙ e
-
-  pub event-loop-further : (old new : Reading EventValue EventFault) (stages next : List Stage) (more : Bool) (all : Result (List Stage) FeedFault) → more ≡ true → SeesEvent s old (Ok more) new stages next → message_said s old stages ≡ all → message_said s new next ≡ all
-  event-loop-further old new stages next false all is e seen = cc
-  event-loop-further old new stages next true all is e seen = sym e.0 ∙ seen
-
-  pub event-loop-less : (old new : Reading EventValue EventFault) (stages next : List Stage) (more : Bool) → more ≡ true → SeesEvent s old (Ok more) new stages next → length new.items < length old.items
-  event-loop-less old new stages next false is e = cc
-  event-loop-less old new stages next true is e = e.1
-
-  pub event-loop-wrong : (old new : Reading EventValue EventFault) (stages next : List Stage) (fault : FeedFault) (all : Result (List Stage) FeedFault) → SeesEvent s old (Err fault) new stages next → message_said s old stages ≡ all → Refuses meant_of fault all
-  event-loop-wrong old new stages next fault all e seen = refused_or fault all (λ f is. sym seen ∙ refused_as fault f (message_said s old stages) e is)
-
   -- ---- the messages of a feed
 
   by_first : (r : Result (List Stage) FeedFault) (all front rest : List Stage → Result (List Stage) FeedFault) → ((mid : List Stage) → all mid ≡ front mid >>= rest) → r >>= all ≡ (r >>= front) >>= rest
@@ -176,18 +155,3 @@ module _ (s : SourceTables) where
 
   pub messages-wrong : (old : Reading (List ℕ) FrameFault) (stages : List Stage) (fault : FrameFault) → old.items ≡ [] → old.fault ≡ Some fault → messages_said s old stages ≡ Err Frame
   messages-wrong old stages fault none is = messages_end old stages (Some fault) none is
-
-  pub message-loop-end : (old new : Reading (List ℕ) FrameFault) (stages next : List Stage) (more : Bool) (all : Result (List Stage) FeedFault) → more ≡ false → SeesMessage s old (Ok more) new stages next → messages_said s old stages ≡ all → all ≡ Ok next
-  message-loop-end old new stages next true all is e seen = cc
-  message-loop-end old new stages next false all is e seen = sym seen ∙ e
-
-  pub message-loop-further : (old new : Reading (List ℕ) FrameFault) (stages next : List Stage) (more : Bool) (all : Result (List Stage) FeedFault) → more ≡ true → SeesMessage s old (Ok more) new stages next → messages_said s old stages ≡ all → messages_said s new next ≡ all
-  message-loop-further old new stages next false all is e seen = cc
-  message-loop-further old new stages next true all is e seen = sym e.0 ∙ seen
-
-  pub message-loop-less : (old new : Reading (List ℕ) FrameFault) (stages next : List Stage) (more : Bool) → more ≡ true → SeesMessage s old (Ok more) new stages next → length new.items < length old.items
-  message-loop-less old new stages next false is e = cc
-  message-loop-less old new stages next true is e = e.1
-
-  pub message-loop-wrong : (old new : Reading (List ℕ) FrameFault) (stages next : List Stage) (fault : FeedFault) (all : Result (List Stage) FeedFault) → SeesMessage s old (Err fault) new stages next → messages_said s old stages ≡ all → Refuses meant_of fault all
-  message-loop-wrong old new stages next fault all e seen = refused_or fault all (λ f is. sym seen ∙ refused_as fault f (messages_said s old stages) e is)

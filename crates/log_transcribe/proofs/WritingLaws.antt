@@ -3,7 +3,6 @@ use Rattle.std.proofs.Common.{◌≡◌, ℕ, suc, ◌+◌, ◌<◌, ◌≤◌, 
 use Rattle.std.proofs.lemmas.Bool.{cond-true, cond-false, lt-ltb, le-ltb}
 use Rattle.std.proofs.lemmas.List.{append-nil, map-append, at_drop_more, at_drop_all}
 use Rattle.std.proofs.lemmas.List.Concat.{flat_map-append}
-use Rattle.std.specs.Prelude.{if◌then◌else◌}
 use Rattle.list_laws.specs.Outcome.{◌>>=◌, Refuses, GivesUnless}
 use Rattle.item_readers.specs.Reading.{Reading}
 use Rattle.gtid_set.specs.declared.interval.Interval.{Interval}
@@ -21,13 +20,13 @@ use Rattle.log_feed.specs.declared.fault.ChangeError as change_errors
 use Rattle.log_feed.specs.declared.fault.ChangeError.TheVariants as change_error
 use Rattle.log_feed.specs.Fault as changes
 use Rattle.log_feed.specs.declared.table.Stage.{Stage}
-use Rattle.log_feed.specs.Group.{Told, in_bytes, place_event, group_of, told_of_all, with_told}
+use Rattle.log_feed.specs.Group.{Told, in_bytes, group_of, told_of_all, with_told}
 use Rattle.log_laws.specs.declared.fault.TellFault.{TellFault}
 use Rattle.log_laws.specs.declared.fault.TellFault.TheVariants as tell_fault
 use Rattle.log_laws.specs.Source.{SourceTables}
 use Rattle.log_laws.specs.Transcript.{Far, Messages, of_changes, place_told, messages_with, has_events, group_told, groups_told, last_by, last_told, written}
 use Rattle.log_transcribe.specs.declared.fault.LogsFault.{LogsFault}
-use Rattle.log_transcribe.specs.declared.fault.LogsFault.TheVariants.{Course, Tell, TooLong}
+use Rattle.log_transcribe.specs.declared.fault.LogsFault.TheVariants.{Tell, TooLong}
 use Rattle.log_transcribe.specs.declared.fault.LogsError.{LogsError}
 use Rattle.log_transcribe.specs.declared.fault.LogsError.TheVariants as logs_error
 use Rattle.log_transcribe.specs.declared.fault.TellError.{TellError}
