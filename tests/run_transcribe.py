@@ -10,7 +10,10 @@ statements, over one to three files. Cut anywhere, the last file is refused 141,
 is there; one that a server still writes gives the beginning of the feed. With a bit turned a file with checks is refused at
 the event that has the bit, or the feed is the same, or shorter where its server still writes the file. Files in another order are refused 159, or the feed's first one is missing;
 a workflow with another type or another number of columns is refused where the table has rows, by its name, at the byte of a
-transaction. The last line is 'N passed, M failed'.
+transaction. Behind the feed of the logs up to a transaction, for each of them, `--after` writes the rest of the whole feed's
+messages, of all logs or of those from that one's file on; behind the whole feed it writes nothing; where a table that is made in
+an earlier file has its first rows behind that feed, the later logs alone are refused 159. Logs that begin behind the feed's end
+are refused 159, and a feed of another shard or with other columns 89 and 85. The last line is 'N passed, M failed'.
 """
 import argparse
 import bisect
@@ -28,6 +31,7 @@ sys.path.append(os.path.join(os.path.dirname(os.path.abspath(__file__)), "..", "
 from model.binlog import History
 from recorder import wire
 
+COMMIT = b"\x0a\x02\x08\x03"
 LINE = re.compile(rb"refused (\d+) file (log\.\d) byte (\d+)(?: table (\w+))?\n")
 
 
@@ -54,6 +58,27 @@ class Place:
 def wants(told: bool, what: object) -> None:
     if not told:
         raise Fault(what)
+
+
+def joined(front: bytes, more: bytes) -> bytes:
+    """A feed with further messages, without the message of a position alone that stood at its end before them."""
+    messages = list(messages_of(front))
+    if more and messages and not messages[-1].endswith(COMMIT):
+        front = front[: len(front) - len(wire.varint(len(messages[-1]))) - len(messages[-1])]
+    return front + more
+
+
+def messages_of(feed: bytes):
+    place = 0
+    while place < len(feed):
+        size, shift = 0, 0
+        while True:
+            byte = feed[place]
+            size, shift, place = size | (byte & 127) << shift, shift + 7, place + 1
+            if byte < 128:
+                break
+        yield feed[place : place + size]
+        place += size
 
 
 class Trial:
@@ -142,8 +167,59 @@ class Trial:
         wants(status == 1 and not out and line and int(line[1]) == (148 if more else 149) and line[4].decode() == table["name"], ("altered", ran))
         wants((int(line[2][4:]), int(line[3])) in self.history.starts, ("no transaction's beginning", ran, self.history.starts))
 
+    def after(self, feed: bytes, names: list[str], workflow: str = "workflow", words: tuple = ()) -> tuple[int, bytes, bytes]:
+        self.place.put("had", feed)
+        ran = self.made(names, workflow, ("--after=had", *words))
+        with open(os.path.join(self.place.folder, "had"), "rb") as file:
+            wants(file.read() == feed, "the feed that was there")
+        return ran
+
+    def parts(self) -> None:
+        """The parts of the feed are the whole, cut at each transaction."""
+        whole, last = self.history.feed, len(self.names) - 1
+        wants(self.after(whole, self.names) == (0, b"", b""), "behind the whole")
+        wants(self.after(b"", self.names) == (0, whole, b""), "behind nothing")
+        for file, byte in self.history.starts + [(last, len(self.history.logs[last].data))]:
+            part = [*self.names[:file], self.place.put("part", bytes(self.history.logs[file].data[:byte]))]
+            status, front, line = self.made(part)
+            if status:
+                # an XA transaction is left prepared there
+                wants(b"refused 156 file part " in line and not front, ("part", file, byte, line))
+                continue
+            ran = self.after(front, self.names)
+            wants(ran[0] == 0 and not ran[2] and joined(front, ran[1]) == whole, ("after", file, byte, front, ran, whole))
+            if file:
+                later = self.after(front, self.names[file:])
+                refused = later[0] == 1 and not later[1] and (b"refused 159 file " in later[2] or b"refused 156 file " in later[2])
+                wants(later == ran or refused, ("after, later logs", file, byte, front, later, ran))
+            self.place.put("more", ran[1])
+            wants(self.after(front, self.names, words=("--save-to=more",)) == (0, b"", b""), "--after and --save-to")
+            wants(self.after(front, self.names, words=("--save-to=had",))[0] == 2, "--save-to the feed itself")
+
+    def gaps(self) -> None:
+        """Logs that begin behind the feed's end, and a feed of something else."""
+        if len(self.names) > 1 and any(file == 0 for file, _ in self.history.starts):
+            self.line_after(self.after(b"", self.names[1:]), 159, self.names[1])
+        if self.history.feed:
+            self.place.put("workflow2", json.dumps(self.history.workflow() | {"streams": [{"shard": "c0-", "filter": {"rules": [{"match": "/.*", "filter": ""}]}}]}).encode())
+            self.place.put("had", self.history.feed)
+            schema = [f"--schema={self.history.schema}"] if self.history.schema else []
+            ran = self.place.run("transcribe", "--after=had", "--shard=c0-", *schema, "workflow2", *self.names)
+            wants(ran[0] == 1 and not ran[1] and ran[2].startswith(b"refused 89"), ("another shard", ran))
+            said = self.history.workflow()
+            for table in said["tables"]:
+                table["columns"].append(["more", "INT64"])
+            self.place.put("wider", json.dumps(said).encode())
+            ran = self.after(self.history.feed, self.names, "wider")
+            wants(ran[0] == 1 and not ran[1] and ran[2].startswith(b"refused 85") or not self.history.fields, ("other columns", ran))
+
+    def line_after(self, ran: tuple[int, bytes, bytes], number: int, name: str) -> None:
+        wants(ran[0] == 1 and not ran[1] and ran[2].startswith(b"refused %d file %s" % (number, name.encode())), ran)
+
     def all(self) -> None:
         self.plain()
+        self.parts()
+        self.gaps()
         for _ in range(4):
             self.cut()
             self.turned()

@@ -6,8 +6,10 @@ use log_events::{EventFault, LogFault};
 use log_feed::{FeedTable, Trouble};
 use log_laws::TellFault;
 use log_tables::{TableFault, Wanted};
-use log_transcribe::{FeedSource, LogsError, LogsFault, transcribe};
-use source_feed::read_groups;
+use log_transcribe::{
+    BehindError, BehindFault, FeedSource, LogsError, LogsFault, transcribe, transcribe_behind,
+};
+use source_feed::{FeedFault, read_groups};
 use std::alloc::{AllocError, Global};
 
 /// A message: BEGIN, the FIELD and the ROW of `t`, the position and COMMIT.
@@ -132,6 +134,73 @@ fn logs_with_a_turned_bit(rt: HostRuntime) -> Result<(), AllocError> {
             log[place] ^= BITS[bit];
             if let Ok(feed) = feed_of(rt.alloc(), "t", 6165, &[&log])? {
                 assert!(rt; feed.as_slice() == FEED.as_slice());
+            }
+        }
+    }
+    Ok(())
+}
+
+/// What logs have behind a feed of the table, whose second column is of this type.
+fn behind_of(
+    alloc: Global,
+    number: u32,
+    feed: &[u8],
+    logs: &[&[u8]],
+) -> Result<Result<Vec<u8>, BehindFault>, AllocError> {
+    let tables = tables_of(alloc, "t", number)?;
+    let source = FeedSource {
+        keyspace: "ks",
+        shard: "-80",
+        schema: b"s",
+        tables: &tables,
+    };
+    match transcribe_behind(alloc, source, feed, logs) {
+        Ok(more) => Ok(Ok(more)),
+        Err(BehindError::Memory) => Err(AllocError),
+        Err(BehindError::Fault(fault)) => Ok(Err(fault)),
+    }
+}
+
+/// Behind the whole feed there is nothing more, and behind an empty one all of it.
+#[test]
+fn behind_a_feed(rt: HostRuntime) -> Result<(), AllocError> {
+    let Ok(none) = behind_of(rt.alloc(), 6165, &FEED, &[&LOG])? else {
+        return Err(AllocError);
+    };
+    assert!(rt; none.is_empty());
+    let Ok(all) = behind_of(rt.alloc(), 6165, &[], &[&LOG])? else {
+        return Err(AllocError);
+    };
+    assert!(rt; all.as_slice() == FEED.as_slice());
+    let Ok(nothing) = behind_of(rt.alloc(), 6165, &FEED, &[])? else {
+        return Err(AllocError);
+    };
+    assert!(rt; nothing.is_empty());
+    Ok(())
+}
+
+/// The faults of the feed, with those of its columns, and then of the logs.
+#[test]
+fn refused_behind_a_feed(rt: HostRuntime) -> Result<(), AllocError> {
+    let cut = behind_of(rt.alloc(), 6165, &FEED[..100], &[b"no log"])?;
+    assert!(rt; matches!(&cut, Err(BehindFault::Feed(FeedFault::Frame))));
+    let differs = behind_of(rt.alloc(), 263, &FEED, &[&LOG])?;
+    assert!(rt; matches!(&differs, Err(fault) if fault.number() == 85));
+    let log = behind_of(rt.alloc(), 6165, &FEED, &[b"no log"])?;
+    assert!(rt; matches!(&log, Err(fault) if fault.number() == 140));
+    let field = behind_of(rt.alloc(), 6165, &FEED[..2], &[&LOG])?;
+    assert!(rt; matches!(&field, Err(fault) if fault.number() == 81));
+    Ok(())
+}
+
+/// Behind the feed of a log's beginning the rest of it makes the whole feed.
+#[test]
+fn behind_the_feed_of_a_cut_log(rt: HostRuntime) -> Result<(), AllocError> {
+    for size in 0..LOG.len() {
+        if let Ok(front) = feed_of(rt.alloc(), "t", 6165, &[&LOG[..size]])? {
+            match behind_of(rt.alloc(), 6165, &front, &[&LOG])? {
+                Ok(more) => assert!(rt; more.as_slice() == FEED.as_slice()),
+                Err(_) => return Err(AllocError),
             }
         }
     }

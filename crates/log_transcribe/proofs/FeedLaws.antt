@@ -1,9 +1,9 @@
 -- The feed of logs has just the groups of their transactions.
-use Rattle.std.proofs.Common.{◌≡◌, ℕ, zero, suc, ◌+◌, ◌<◌, ◌^◌, Bool, true, false, nat_lt, List, [], ◌∷◌, ◌++◌, length, map, reverse, replicate, get_or, Option, None, Some, Result, Ok, Err, refl, sym, ap, subst, ◌∙◌, arith, append_assoc, length-append}
+use Rattle.std.proofs.Common.{◌≡◌, ℕ, zero, suc, ◌+◌, ◌<◌, ◌^◌, Bool, true, false, nat_lt, List, [], ◌∷◌, ◌++◌, length, reverse, replicate, get_or, Option, None, Some, Result, Ok, Err, refl, sym, ap, subst, ◌∙◌, arith, append_assoc}
 use Rattle.std.proofs.lemmas.Bool.{ltb-true, false≢true}
 use Rattle.std.proofs.lemmas.List.{append-nil, reverse-append}
 use Rattle.std.proofs.lemmas.List.Concat.{flat_map-append}
-use Rattle.std.specs.List.{AllByRecursion, flat_map}
+use Rattle.std.specs.List.{AllByRecursion}
 use Rattle.list_laws.proofs.Fronts.{All-append}
 use Rattle.list_laws.specs.Outcome.{◌>>=◌}
 use Rattle.item_readers.specs.Reading.{Reading}
@@ -18,17 +18,15 @@ use Rattle.source_feed.specs.Groups.{groups_of, first_fault, groups}
 use Rattle.event_laws.specs.Laws.{HaveEvents}
 use Rattle.log_course.specs.declared.fault.CourseFault.{CourseFault}
 use Rattle.log_course.specs.Course.{PlacedValue, IsCourse, course_at, CoursesAreRead}
-use Rattle.log_feed.specs.declared.table.Stage.{Stage}
 use Rattle.log_feed.specs.declared.table.Stage.TheVariants.{Absent, Filled}
-use Rattle.log_feed.specs.Group.{Told, told_of_all}
+use Rattle.log_feed.specs.Group.{told_of_all}
 use Rattle.log_laws.specs.declared.fault.TellFault.{TellFault}
 use Rattle.log_laws.specs.Source.{SourceTables, IsSource, source_of}
 use Rattle.log_laws.specs.Transcript.{Far, Messages, of_changes, messages_with, has_events, group_told, groups_told, last_told, written}
-use Rattle.log_laws.specs.Read.{groups_read, last_read, reached_by, said_by}
+use Rattle.log_laws.specs.Read.{groups_read, last_read, reached_by}
 use Rattle.log_laws.specs.Far.{TellsSoFar, AreRising}
 use Rattle.log_laws.specs.Laws.{events_in, behind, next_number, TellGroups, ReachesSoFar, TransactionsAreTold, TransactionsReach, EndsAreTold, CoursesRise, MessagesAreRead, FeedsHaveTheirGroups}
 use Rattle.log_laws.proofs.Steps.{given, given_if, same_value}
-use Rattle.log_transcribe.specs.declared.fault.LogsFault.{LogsFault}
 use Rattle.log_transcribe.specs.declared.fault.LogsFault.TheVariants.{TooLong}
 use Rattle.log_transcribe.specs.Fault.{of_course, of_tell}
 use Rattle.log_transcribe.specs.Transcript.{up_to, course_told, log_told, logs_told, nothing_told, feed_told, short_feed, feed_of_logs}
@@ -75,11 +73,11 @@ told_both s (g ∷ one) more old x y e f =
     let rest : groups_told s (one ++ more) a.0.1 ≡ Ok (b.0.0 ++ y.0, y.1) = told_both s one more a.0.1 b.0 y b.1 at in
     rw (a.1, rest) (ap (λ (ms : List (List EventValue)). Ok (ms, y.1)) (sym (append_assoc a.0.0 b.0.0 y.0) ∙ ap (λ (m : Messages). m.0 ++ y.0) is))
 
-rising_both : (reached : List Interval) (one more : List PlacedValue) → AreRising reached one → AreRising (reached_by reached one) more → AreRising reached (one ++ more)
+pub rising_both : (reached : List Interval) (one more : List PlacedValue) → AreRising reached one → AreRising (reached_by reached one) more → AreRising reached (one ++ more)
 rising_both reached [] more a b = b
 rising_both reached (g ∷ one) more a b = (a.0, rising_both g.position one more a.1 b)
 
-canonical_by : (reached : List Interval) (one : List PlacedValue) → IsCanonical reached → AreRising reached one → IsCanonical (reached_by reached one)
+pub canonical_by : (reached : List Interval) (one : List PlacedValue) → IsCanonical reached → AreRising reached one → IsCanonical (reached_by reached one)
 canonical_by reached [] c a = c
 canonical_by reached (g ∷ one) c a = canonical_by g.position one a.0.canonical a.1
 
@@ -91,11 +89,11 @@ record AreRun (s : SourceTables) (logs : List (List ℕ)) (old : Far) (x : Messa
   rising : AreRising old.reached transactions
   told : groups_told s transactions old ≡ Ok x
 
-of_course_given : {A : Type 0} (file : ℕ) (r : Result A CourseFault) (x : A) → of_course file r ≡ Ok x → r ≡ Ok x
+pub of_course_given : {A : Type 0} (file : ℕ) (r : Result A CourseFault) (x : A) → of_course file r ≡ Ok x → r ≡ Ok x
 of_course_given file (Ok y) x e = ap Ok (same_value y x e)
 of_course_given file (Err fault) x e = cc
 
-of_tell_given : {A : Type 0} (file : ℕ) (r : Result A TellFault) (x : A) → of_tell file r ≡ Ok x → r ≡ Ok x
+pub of_tell_given : {A : Type 0} (file : ℕ) (r : Result A TellFault) (x : A) → of_tell file r ≡ Ok x → r ≡ Ok x
 of_tell_given file (Ok y) x e = ap Ok (same_value y x e)
 of_tell_given file (Err fault) x e = cc
 
@@ -136,7 +134,7 @@ absent_at zero place = refl
 absent_at (suc n) zero = refl
 absent_at (suc n) (suc place) = absent_at n place
 
-not_filled : {P : Type 0} → Absent ≡ Filled → P
+pub not_filled : {P : Type 0} → Absent ≡ Filled → P
 not_filled e = cc
 
 at_first : (s : SourceTables) → TellsSoFar s [] (nothing_told s)

@@ -1,2 +1,7 @@
 pub mod FeedLaws
 pub mod WritingLaws
+pub mod GoingLaws
+pub mod ApartLaws
+pub mod SaidLaws
+pub mod SeenLaws
+pub mod FurtherLaws

@@ -3,7 +3,6 @@ use Rattle.std.proofs.Common.{◌≡◌, ℕ, suc, ◌+◌, ◌<◌, ◌≤◌, 
 use Rattle.std.proofs.lemmas.Bool.{cond-true, cond-false, lt-ltb, le-ltb}
 use Rattle.std.proofs.lemmas.List.{append-nil, map-append, at_drop_more, at_drop_all}
 use Rattle.std.proofs.lemmas.List.Concat.{flat_map-append}
-use Rattle.std.specs.Prelude.{if◌then◌else◌}
 use Rattle.list_laws.specs.Outcome.{◌>>=◌, Refuses, GivesUnless}
 use Rattle.item_readers.specs.Reading.{Reading}
 use Rattle.gtid_set.specs.declared.interval.Interval.{Interval}
@@ -21,13 +20,13 @@ use Rattle.log_feed.specs.declared.fault.ChangeError as change_errors
 use Rattle.log_feed.specs.declared.fault.ChangeError.TheVariants as change_error
 use Rattle.log_feed.specs.Fault as changes
 use Rattle.log_feed.specs.declared.table.Stage.{Stage}
-use Rattle.log_feed.specs.Group.{Told, in_bytes, place_event, group_of, told_of_all, with_told}
+use Rattle.log_feed.specs.Group.{Told, in_bytes, group_of, told_of_all, with_told}
 use Rattle.log_laws.specs.declared.fault.TellFault.{TellFault}
 use Rattle.log_laws.specs.declared.fault.TellFault.TheVariants as tell_fault
 use Rattle.log_laws.specs.Source.{SourceTables}
 use Rattle.log_laws.specs.Transcript.{Far, Messages, of_changes, place_told, messages_with, has_events, group_told, groups_told, last_by, last_told, written}
 use Rattle.log_transcribe.specs.declared.fault.LogsFault.{LogsFault}
-use Rattle.log_transcribe.specs.declared.fault.LogsFault.TheVariants.{Course, Tell, TooLong}
+use Rattle.log_transcribe.specs.declared.fault.LogsFault.TheVariants.{Tell, TooLong}
 use Rattle.log_transcribe.specs.declared.fault.LogsError.{LogsError}
 use Rattle.log_transcribe.specs.declared.fault.LogsError.TheVariants as logs_error
 use Rattle.log_transcribe.specs.declared.fault.TellError.{TellError}
@@ -38,14 +37,14 @@ use Rattle.log_transcribe.specs.Private.Bytes.{tell_meant, course_error_at, chan
 
 -- ---- messages one behind another
 
-written_both : (one more : List (List EventValue)) → written (one ++ more) ≡ written one ++ written more
+pub written_both : (one more : List (List EventValue)) → written (one ++ more) ≡ written one ++ written more
 written_both one more =
     ap (λ (ms : List (List (List ℕ))). written_messages ms) (map-append in_bytes one more) ∙ flat_map-append (λ (events : List (List ℕ)). framed (written_response events)) (map in_bytes one) (map in_bytes more)
 
-put_both : (out : List ℕ) (one more : List (List EventValue)) → out ++ written (one ++ more) ≡ (out ++ written one) ++ written more
+pub put_both : (out : List ℕ) (one more : List (List EventValue)) → out ++ written (one ++ more) ≡ (out ++ written one) ++ written more
 put_both out one more = ap (λ (b : List ℕ). out ++ b) (written_both one more) ∙ sym (append_assoc out (written one) (written more))
 
-same_told : {A F : Type 0} (x y : A) → ◌≡◌ {A = Result A F} (Ok x) (Ok y) → x ≡ y
+pub same_told : {A F : Type 0} (x y : A) → ◌≡◌ {A = Result A F} (Ok x) (Ok y) → x ≡ y
 same_told x y e = cc
 
 -- ---- a transaction
@@ -293,7 +292,7 @@ feed-put view (Err (logs_error.Fault fault)) s logs n out far many e put = feed_
 
 -- ---- its length
 
-told_so : (r : Result (List (List EventValue)) LogsFault) (feed : List ℕ) → bytes_told r ≡ Ok feed → (messages : List (List EventValue)) × (r ≡ Ok messages) × (written messages ≡ feed)
+pub told_so : (r : Result (List (List EventValue)) LogsFault) (feed : List ℕ) → bytes_told r ≡ Ok feed → (messages : List (List EventValue)) × (r ≡ Ok messages) × (written messages ≡ feed)
 told_so (Ok messages) feed e = (messages, refl, same_told (written messages) feed e)
 told_so (Err fault) feed e = cc
 

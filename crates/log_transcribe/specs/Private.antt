@@ -1,2 +1,4 @@
 -- What serves the code alone, and no public contract.
 pub mod Bytes
+pub mod Sees
+pub mod Goes

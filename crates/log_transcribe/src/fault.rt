@@ -1,12 +1,14 @@
 //! Why logs make no feed.
 
 ghost use Rattle.std.specs.Prelude.{◌≡◌};
-ghost use Rattle.log_transcribe.specs.Fault.{number_of, file_of};
+ghost use Rattle.log_transcribe.specs.Fault.{number_of, file_of, behind_number};
 ghost use Rattle.log_transcribe.specs.declared.fault.LogsError.TheVariants as logs_error;
 ghost use Rattle.log_transcribe.specs.declared.fault.TellError.TheVariants as tell_error;
+ghost use Rattle.log_transcribe.specs.declared.fault.BehindError.TheVariants as behind_error;
 
 use log_course::CourseFault;
 use log_laws::TellFault;
+use source_feed::FeedFault;
 use std::alloc::AllocError;
 
 /// What is wrong with logs, and with which file, by its place from 0.
@@ -56,6 +58,42 @@ impl From<AllocError> for LogsError {
 
     fn from(_error: AllocError) -> LogsError {
         LogsError::Memory
+    }
+}
+
+/// What is wrong with a feed, or with logs that go on behind it.
+#[derive(Clone, Copy, Debug, PartialEq, Eq)]
+pub enum BehindFault {
+    /// The feed doesn't open, has other columns of a table, or bytes and no group.
+    Feed(FeedFault),
+    /// The logs don't go on behind it.
+    Logs(LogsFault),
+}
+
+impl BehindFault {
+    /// The refusal's number: 81 to 89, 91, 92, 94, 95, or 140 to 159.
+    pub fn number(self) -> u8
+        ensures { result ≡ behind_number self }
+    {
+        match self {
+            BehindFault::Feed(fault) => fault.number(),
+            BehindFault::Logs(fault) => fault.number(),
+        }
+    }
+}
+
+/// Why logs don't go on behind a feed.
+#[derive(Clone, Copy, Debug, PartialEq, Eq)]
+pub enum BehindError {
+    Memory,
+    Fault(BehindFault),
+}
+
+impl From<AllocError> for BehindError {
+    ghost from_gives = { λ _ error. error ≡ behind_error.Memory };
+
+    fn from(_error: AllocError) -> BehindError {
+        BehindError::Memory
     }
 }
 

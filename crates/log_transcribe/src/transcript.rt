@@ -38,12 +38,12 @@ pub struct FeedSource<'t, 'w> {
 
 /// How far logs are told. Seen in contracts as whose feed it is, and how far it tells.
 #[derive(Drop)]
-struct Transcript<'t, 'w> {
-    keyspace: &'t str,
-    shard: &'t str,
-    writer: GroupWriter<'t, 'w>,
-    reached: GtidSet,
-    said: bool,
+pub(crate) struct Transcript<'t, 'w> {
+    pub(crate) keyspace: &'t str,
+    pub(crate) shard: &'t str,
+    pub(crate) writer: GroupWriter<'t, 'w>,
+    pub(crate) reached: GtidSet,
+    pub(crate) said: bool,
 }
 
 impl<'t, 'w> Model for Transcript<'t, 'w> {
@@ -55,7 +55,7 @@ impl<'t, 'w> Model for Transcript<'t, 'w> {
 }
 
 /// A copy of a position.
-fn copy_of(alloc: Global, position: &GtidSet) -> Result<GtidSet, AllocError>
+pub(crate) fn copy_of(alloc: Global, position: &GtidSet) -> Result<GtidSet, AllocError>
     ensures { IfOk result (λ copy. copy ≡ position.now) }
 {
     match position.try_clone(alloc) {
@@ -65,7 +65,7 @@ fn copy_of(alloc: Global, position: &GtidSet) -> Result<GtidSet, AllocError>
 }
 
 /// What is wrong with the file at a place.
-fn of_course(file: usize, error: CourseError) -> LogsError
+pub(crate) fn of_course(file: usize, error: CourseError) -> LogsError
     ensures { result ≡ course_error_at file error }
 {
     match error {
@@ -75,7 +75,7 @@ fn of_course(file: usize, error: CourseError) -> LogsError
 }
 
 /// What is wrong with the changes of a transaction of it.
-fn of_change(file: usize, error: ChangeError) -> LogsError
+pub(crate) fn of_change(file: usize, error: ChangeError) -> LogsError
     ensures { result ≡ change_error_at file error }
 {
     match error {
@@ -99,7 +99,7 @@ fn of_tell(file: usize, error: TellError) -> LogsError
 
 impl<'t, 'w> Transcript<'t, 'w> {
     /// Appends the message of a transaction of the file at a place, where it changes a table of the feed.
-    fn put_group(
+    pub(crate) fn put_group(
         &mut self,
         alloc: Global,
         out: &mut Vec<u8>,
@@ -214,7 +214,12 @@ impl<'t, 'w> Transcript<'t, 'w> {
     }
     /// The bytes with the message of the position that was reached, where it isn't said, behind them; `file` is the place
     /// behind the last file.
-    fn with_last(&self, alloc: Global, out: Vec<u8>, file: usize) -> Result<Vec<u8>, LogsError>
+    pub(crate) fn with_last(
+        &self,
+        alloc: Global,
+        out: Vec<u8>,
+        file: usize,
+    ) -> Result<Vec<u8>, LogsError>
         ensures { GivesUnless meant (λ all. all.items) result (of_tell file (last_with (last_told self.now.source self.now.far) out.items)) }
     {
         let mut out = out;

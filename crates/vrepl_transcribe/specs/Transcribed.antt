@@ -12,39 +12,47 @@ use Rattle.log_laws.specs.declared.fault.TellFault.TheVariants.{Change}
 use Rattle.log_transcribe.specs.Fault.{number_of, file_of}
 use Rattle.log_transcribe.specs.Feed.{IsFeedOfLogs}
 use Rattle.log_transcribe.specs.Transcript.{feed_of_logs}
+use Rattle.log_transcribe.specs.Behind.{behind_of_logs}
+use Rattle.log_transcribe.specs.Further.{IsFeedBehind}
+use Rattle.log_transcribe.specs.declared.fault.BehindFault.{BehindFault}
+use Rattle.log_transcribe.specs.declared.fault.BehindFault.TheVariants.{Feed, Logs}
+use Rattle.source_feed.specs.declared.fault.FeedFault.{FeedFault}
+use Rattle.source_feed.specs.FaultNumber as feeds
 use Rattle.log_transcribe.specs.declared.fault.LogsFault.{LogsFault}
 use Rattle.log_transcribe.specs.declared.fault.LogsFault.TheVariants.{Tell}
 use Rattle.printing.specs.Printing.{Written, IsWritten, BreaksOff}
 use Rattle.vrepl_transcribe.specs.Source.{plan_of_shard, first_unplain, source_in}
 use Rattle.vrepl_transcribe.specs.declared.inputs.TranscribeInputs.{TranscribeInputs}
 use Rattle.vrepl_transcribe.specs.declared.transcribing.Untranscribed.{Untranscribed}
-use Rattle.vrepl_transcribe.specs.declared.transcribing.Untranscribed.TheVariants.{Memory, Workflow, NoStream, Line}
+use Rattle.vrepl_transcribe.specs.declared.transcribing.Untranscribed.TheVariants as not
 use Rattle.vrepl_transcribe.specs.declared.transcribing.TranscribeEnd.{TranscribeEnd}
 use Rattle.vrepl_transcribe.specs.declared.transcribing.TranscribeEnd.TheVariants as end
 
 -- ---- what is asked for
 
--- the inputs: the shard of a stream, and the schema of its tables if it is given; the workflow's file; the logs in order,
--- and their names
+-- the inputs: the shard of a stream, and the schema of its tables if it is given; the feed behind which to go on, if there is
+-- one; the workflow's file; the logs in order, and their names
 pub record AskedValue : Type 0 where
   pub shard : List ℕ
   pub schema : Option (List ℕ)
+  pub after : Option (List ℕ)
   pub workflow : List ℕ
   pub names : List (List ℕ)
   pub logs : List (List ℕ)
 
 -- those of the program
 abbrev pub asked_of : TranscribeInputs → AskedValue
-asked_of inputs = record { shard = inputs.shard.now; schema = option_map (λ name. name.now) inputs.schema; workflow = inputs.workflow.items; names = map (λ name. name.now) inputs.names.now; logs = map (λ log. log.items) inputs.logs.items }
+asked_of inputs = record { shard = inputs.shard.now; schema = option_map (λ name. name.now) inputs.schema; after = option_map (λ feed. feed.items) inputs.after; workflow = inputs.workflow.items; names = map (λ name. name.now) inputs.names.now; logs = map (λ log. log.items) inputs.logs.items }
 
 -- ---- the feed, as a function
 
 -- why there is no feed: the workflow isn't read; it has no stream of the shard; a table has a name that isn't plain; or what
--- is wrong with the logs, for the feed of a source
+-- is wrong with the feed that is there, or with the logs, for the feed of a source
 pub data WhyNot : Type 0 where
   unread_workflow : plans.Fault → WhyNot
   no_stream : WhyNot
   unplain_name : List ℕ → WhyNot
+  unread_feed : FeedFault → WhyNot
   unread_logs : SourceTables → LogsFault → WhyNot
 
 abbrev pub of_workflow : Result (List PlanValue) plans.Fault → Result (List PlanValue) WhyNot
@@ -64,9 +72,19 @@ abbrev pub of_logs : SourceTables → Result (List ℕ) LogsFault → Result (Li
 of_logs s (Ok feed) = Ok feed
 of_logs s (Err fault) = Err (unread_logs s fault)
 
--- the feed of the logs under a plan
+abbrev pub of_behind : SourceTables → Result (List ℕ) BehindFault → Result (List ℕ) WhyNot
+of_behind s (Ok more) = Ok more
+of_behind s (Err (Feed fault)) = Err (unread_feed fault)
+of_behind s (Err (Logs fault)) = Err (unread_logs s fault)
+
+-- the feed of the logs, or what they have behind one that is there
+abbrev pub feed_from : SourceTables → Option (List ℕ) → List (List ℕ) → Result (List ℕ) WhyNot
+feed_from s None logs = of_logs s (feed_of_logs s logs)
+feed_from s (Some feed) logs = of_behind s (behind_of_logs s feed logs)
+
+-- under a plan
 abbrev pub feed_under : AskedValue → PlanValue → Result (List ℕ) WhyNot
-feed_under a plan = of_names plan.tables (first_unplain plan.tables) >>= λ _. of_logs (source_in plan a.schema) (feed_of_logs (source_in plan a.schema) a.logs)
+feed_under a plan = of_names plan.tables (first_unplain plan.tables) >>= λ _. feed_from (source_in plan a.schema) a.after a.logs
 
 -- and under that of the stream of the shard
 abbrev pub feed_asked : AskedValue → Result (List ℕ) WhyNot
@@ -74,14 +92,19 @@ feed_asked a = of_workflow (plans_of a.workflow) >>= λ plans. of_stream (plan_o
 
 -- ---- the feed, as what it means
 
+-- the feed of logs, or what they have behind one that is there
+abbrev pub IsMade : SourceTables → Option (List ℕ) → List (List ℕ) → List ℕ → Type 0
+IsMade s None logs feed = IsFeedOfLogs s logs feed
+IsMade s (Some old) logs more = IsFeedBehind s old logs more
+
 -- The bytes are a feed whose groups are just the transactions that the logs commit of the workflow's tables, for the stream of
--- the shard.
+-- the shard; or messages with which a feed has just those of them more that it didn't have.
 pub record IsTranscribed (a : AskedValue) (feed : List ℕ) : Type 0 where
   pub plans : List PlanValue
   pub said : plans_of a.workflow ≡ Ok plans
   pub plan : PlanValue
   pub of : plan_of_shard plans a.shard ≡ Some plan
-  pub is : IsFeedOfLogs (source_in plan a.schema) a.logs feed
+  pub is : IsMade (source_in plan a.schema) a.after a.logs feed
 
 -- ---- the line of a refusal
 
@@ -116,10 +139,11 @@ SaysWhy a why line = ⊥
 
 -- why there is no feed, which is the definition's reason, unless it is want of memory
 abbrev pub IsWhy : AskedValue → Untranscribed → Type 0
-IsWhy a Memory = Unit {0}
-IsWhy a (Workflow fault) = IfSome (plans.definition_fault_of fault) (λ f. feed_asked a ≡ Err (unread_workflow f))
-IsWhy a NoStream = feed_asked a ≡ Err no_stream
-IsWhy a (Line line) = (why : WhyNot) × (feed_asked a ≡ Err why) × SaysWhy a why line.items
+IsWhy a not.Memory = Unit {0}
+IsWhy a (not.Workflow fault) = IfSome (plans.definition_fault_of fault) (λ f. feed_asked a ≡ Err (unread_workflow f))
+IsWhy a not.NoStream = feed_asked a ≡ Err no_stream
+IsWhy a (not.Feed fault) = IfSome (feeds.meant_of fault) (λ f. feed_asked a ≡ Err (unread_feed f))
+IsWhy a (not.Line line) = (why : WhyNot) × (feed_asked a ≡ Err why) × SaysWhy a why line.items
 
 -- the feed of the definition, or why there is none
 abbrev pub Answers : AskedValue → Result (List ℕ) Untranscribed → Type 0

@@ -7,6 +7,8 @@ pub struct TranscribeInputs<'n, 'w> {
     pub shard: &'w str,
     /// The schema that the logs have its tables in; the keyspace's name unless given.
     pub schema: Option<&'w str>,
+    /// The feed behind which to go on, if there is one.
+    pub after: Option<Vec<u8>>,
     /// The workflow's file.
     pub workflow: Vec<u8>,
     /// The names of the logs' files.

@@ -5,12 +5,11 @@ ghost use Rattle.std.specs.Arc.{arc_value};
 ghost use Rattle.std.specs.Option.{option_map_or};
 ghost use Rattle.std.specs.Result.{result_map_both};
 ghost use Rattle.log_laws.specs.Source.{IsSource};
-ghost use Rattle.log_transcribe.specs.Feed.{IsFeedOfLogs};
 ghost use Rattle.log_transcribe.specs.Transcript.{source_value};
 ghost use Rattle.printing.specs.Printing.{IsWritten, BreaksOff};
 ghost use Rattle.vrepl_transcribe.specs.Source.{plan_of_shard, source_in};
-ghost use Rattle.vrepl_transcribe.specs.Transcribed.{Answers, asked_of, EndsSo, IsTranscribed};
-ghost use Rattle.vrepl_transcribe.specs.Private.Steps.{AnswersLogs, AnswersNames, AnswersUnder, PrintsAll, SaysFault};
+ghost use Rattle.vrepl_transcribe.specs.Transcribed.{Answers, asked_of, EndsSo, IsMade, IsTranscribed};
+ghost use Rattle.vrepl_transcribe.specs.Private.Steps.{AnswersLogs, GivesMade, AnswersNames, AnswersUnder, PrintsAll, SaysFault};
 ghost use Rattle.vrepl_transcribe.specs.declared.transcribing.TranscribeEnd.TheVariants.{Told};
 
 use crate::inputs::TranscribeInputs;
@@ -18,8 +17,12 @@ use crate::line::{logs_line, name_line};
 use crate::place::place_of;
 use crate::source::{feed_tables_of, first_unplain, place_of_shard};
 use filter_rule::{Plan, PlanFault, Table};
-use log_transcribe::{FeedSource, LogsError, LogsFault, transcribe as feed_of_logs};
+use log_transcribe::{
+    BehindError, BehindFault, FeedSource, LogsError, LogsFault, transcribe as feed_of_logs,
+    transcribe_behind,
+};
 use printing::{Out, put_all};
+use source_feed::FeedFault;
 use std::alloc::{AllocError, Global};
 use std::sync::Arc;
 
@@ -32,6 +35,8 @@ pub enum Untranscribed {
     Workflow(PlanFault),
     /// 115: the workflow has no stream of the shard.
     NoStream,
+    /// The feed behind which to go on is refused.
+    Feed(FeedFault),
     /// The line of a table whose name isn't plain (148), or of the first fault in the logs.
     Line(Vec<u8>),
 }
@@ -100,29 +105,55 @@ fn fault_line(
     names: &[&str],
     source: FeedSource<'_, '_>,
     logs: &[&[u8]],
+    after: Option<&[u8]>,
     fault: LogsFault,
 ) -> Result<Vec<u8>, AllocError>
     ensures { IfOk result (λ line. SaysFault (map (λ name. name.now) names.now) (source_value source.entry) fault line.items) }
 {
-    let byte = place_of(alloc, source, logs, fault)?;
+    let byte = match after {
+        Some(_) => None,
+        None => place_of(alloc, source, logs, fault)?,
+    };
     logs_line(alloc, names, source.tables, fault, byte)
 }
 
-/// The feed of logs of these names, or the line of their first fault.
+/// The feed of logs, or what they have behind one.
+fn made_of(
+    alloc: Global,
+    source: FeedSource<'_, '_>,
+    after: Option<&[u8]>,
+    logs: &[&[u8]],
+) -> Result<Vec<u8>, BehindError>
+    ensures made { GivesMade (source_value source.entry) (option_map (λ feed. feed.now) after.entry) (map (λ log. log.now) logs.now) (result_map_both (λ feed. feed.items) (λ error. error) result) }
+    ensures right { IfOk result (λ feed. IsSource (source_value source.entry) → IsMade (source_value source.entry) (option_map (λ feed. feed.now) after.entry) (map (λ log. log.now) logs.now) feed.items) }
+{
+    match after {
+        Some(feed) => transcribe_behind(alloc, source, feed, logs),
+        None => match feed_of_logs(alloc, source, logs) {
+            Ok(feed) => Ok(feed),
+            Err(LogsError::Memory) => Err(BehindError::Memory),
+            Err(LogsError::Fault(fault)) => Err(BehindError::Fault(BehindFault::Logs(fault))),
+        },
+    }
+}
+
+/// The feed of logs of these names, or what they have behind one, or the line of their first fault.
 fn feed_from(
     alloc: Global,
     names: &[&str],
     source: FeedSource<'_, '_>,
+    after: Option<&[u8]>,
     logs: &[&[u8]],
 ) -> Result<Vec<u8>, Untranscribed>
-    ensures answers { AnswersLogs (map (λ name. name.now) names.now) (source_value source.entry) (map (λ log. log.now) logs.now) (result_map_both (λ feed. feed.items) (λ why. why) result) }
-    ensures right { IfOk result (λ feed. IsSource (source_value source.entry) → IsFeedOfLogs (source_value source.entry) (map (λ log. log.now) logs.now) feed.items) }
+    ensures answers { AnswersLogs (map (λ name. name.now) names.now) (source_value source.entry) (option_map (λ feed. feed.now) after.entry) (map (λ log. log.now) logs.now) (result_map_both (λ feed. feed.items) (λ why. why) result) }
+    ensures right { IfOk result (λ feed. IsSource (source_value source.entry) → IsMade (source_value source.entry) (option_map (λ feed. feed.now) after.entry) (map (λ log. log.now) logs.now) feed.items) }
 {
-    match feed_of_logs(alloc, source, logs) {
+    match made_of(alloc, source, after, logs) {
         Ok(feed) => Ok(feed),
-        Err(LogsError::Memory) => Err(Untranscribed::Memory),
-        Err(LogsError::Fault(fault)) => {
-            let line = fault_line(alloc, names, source, logs, fault)?;
+        Err(BehindError::Memory) => Err(Untranscribed::Memory),
+        Err(BehindError::Fault(BehindFault::Feed(fault))) => Err(Untranscribed::Feed(fault)),
+        Err(BehindError::Fault(BehindFault::Logs(fault))) => {
+            let line = fault_line(alloc, names, source, logs, after, fault)?;
             Err(Untranscribed::Line(line))
         }
     }
@@ -138,6 +169,16 @@ fn schema_of<'x>(inputs: &'x TranscribeInputs<'_, '_>, plan: &'x Plan) -> &'x [u
     }
 }
 
+/// The feed behind which to go on, if there is one.
+fn after_of<'x>(inputs: &'x TranscribeInputs<'_, '_>) -> Option<&'x [u8]>
+    ensures { option_map (λ feed. feed.now) result ≡ (asked_of inputs.entry.now).after }
+{
+    match &inputs.after {
+        Some(feed) => Some(feed.as_slice()),
+        None => None,
+    }
+}
+
 /// The feed of the logs under a plan.
 fn feed_under(
     alloc: Global,
@@ -145,7 +186,7 @@ fn feed_under(
     plan: &Plan,
 ) -> Result<Vec<u8>, Untranscribed>
     ensures answers { AnswersUnder (asked_of inputs.now) plan.now (result_map_both (λ feed. feed.items) (λ why. why) result) }
-    ensures right { IfOk result (λ feed. IsFeedOfLogs (source_in plan.now (asked_of inputs.now).schema) (asked_of inputs.now).logs feed.items) }
+    ensures right { IfOk result (λ feed. IsMade (source_in plan.now (asked_of inputs.now).schema) (asked_of inputs.now).after (asked_of inputs.now).logs feed.items) }
 {
     let tables = plan.tables();
     names_are_plain(alloc, tables)?;
@@ -157,11 +198,12 @@ fn feed_under(
         schema: schema_of(inputs, plan),
         tables: &tables,
     };
-    feed_from(alloc, inputs.names, source, &logs)
+    feed_from(alloc, inputs.names, source, after_of(inputs), &logs)
 }
 
 /// The feed of the logs, for the stream of the shard. The faults are found in this order: those of the workflow; 115 where it
-/// has no stream of the shard; 148 where a table's name isn't plain; the first of the logs. Any other error is want of memory.
+/// has no stream of the shard; 148 where a table's name isn't plain; those of the feed behind which to go on, of which 85 comes
+/// behind a fault where the first log begins; the first of the logs. Any other error is want of memory.
 pub fn transcribed(
     alloc: Global,
     inputs: &TranscribeInputs<'_, '_>,

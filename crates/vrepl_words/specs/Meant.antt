@@ -66,6 +66,7 @@ compact_value compact = record {
 abbrev pub transcribe_value : Transcribe → TranscribeValue
 transcribe_value transcribe = record {
   save_to = option_map (λ name. name.now) transcribe.save_to;
+  after = option_map (λ name. name.now) transcribe.after;
   shard = transcribe.shard.now;
   schema = option_map (λ name. name.now) transcribe.schema;
   workflow = transcribe.workflow.now;

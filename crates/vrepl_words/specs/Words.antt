@@ -110,9 +110,10 @@ pub record CompactValue : Type 0 where
   pub feed : Text
 
 -- `transcribe`: a workflow, the shard of one of its streams, the schema of its tables in a server's logs, if it is named, the
--- logs, and the file of the new feed, if there is one
+-- logs, the file of the new feed, if there is one, and the feed behind which to go on, if there is one
 pub record TranscribeValue : Type 0 where
   pub save_to : Option Text
+  pub after : Option Text
   pub shard : Text
   pub schema : Option Text
   pub workflow : Text
@@ -417,17 +418,18 @@ compact_subcommand = record {
 abbrev pub transcribe_given : List Row → TranscribeValue
 transcribe_given given = record {
   save_to = first_of (codes "save-to") given;
+  after = first_of (codes "after") given;
   shard = text_given (codes "shard") given;
   schema = first_of (codes "schema") given;
   workflow = text_given (codes "workflow") given;
   logs = texts_given (codes "log") given;
 }
 
--- `transcribe [--save-to TEXT] --shard TEXT [--schema TEXT] WORKFLOW LOG..`
+-- `transcribe [--save-to TEXT] [--after TEXT] --shard TEXT [--schema TEXT] WORKFLOW LOG..`
 abbrev pub transcribe_subcommand : Subcommand
 transcribe_subcommand = record {
   name = codes "transcribe";
-  rules = option_rule (codes "save-to") ∷ needed_rule (codes "shard") ∷ option_rule (codes "schema") ∷ operand_rule (codes "workflow") ∷ operands_rule (codes "log") ∷ [];
+  rules = option_rule (codes "save-to") ∷ option_rule (codes "after") ∷ needed_rule (codes "shard") ∷ option_rule (codes "schema") ∷ operand_rule (codes "workflow") ∷ operands_rule (codes "log") ∷ [];
   meaning = λ given. Some (asks_transcribe (transcribe_given given));
 }
 

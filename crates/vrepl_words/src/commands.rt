@@ -214,11 +214,13 @@ fn transcribe_command<'w>(alloc: Global) -> Result<Command<'w>, AllocError>
 {
     let about = "Makes the feed of a stream of a server's binary logs";
     let save_help = "The feed's file; standard output unless given";
+    let after_help = "The feed behind which to go on; it stays as it is";
     let shard_help = "The shard of the stream whose feed it is";
     let schema_help = "The tables' schema there, the keyspace's name unless given";
     let logs_help = "The files of the logs, in their order";
     let command = Ok(bare(alloc, "transcribe", about, help::TRANSCRIBE));
     let command = with_arg(command, option(alloc, "save-to", "NEW", save_help));
+    let command = with_arg(command, option(alloc, "after", "FEED", after_help));
     let command = with_arg(command, needed(alloc, "shard", "S", shard_help));
     let command = with_arg(command, option(alloc, "schema", "NAME", schema_help));
     let command = with_arg(command, workflow(alloc));

@@ -278,6 +278,9 @@ the workflow's tables. The file is replaced once the feed is whole; without
 --save-to it is printed. A line of a refusal names the file, the byte in it and
 the table.
 
+With --after FEED only what the feed doesn't have is written: messages that are
+to be appended to it. The logs then may begin anywhere before its end.
+
 Status:
   0  the feed was written
   1  refused; `vrepl explain NUMBER` says what the line's number means

@@ -348,6 +348,7 @@ fn transcribe_words<'w>(alloc: Global, given: &ArgMatches<'w>) -> Result<Words<'
     let logs = texts(alloc, given, "log")?;
     Ok(Words::Transcribe(Transcribe {
         save_to: text_if(given, "save-to"),
+        after: text_if(given, "after"),
         shard: text(given, "shard"),
         schema: text_if(given, "schema"),
         workflow: text(given, "workflow"),

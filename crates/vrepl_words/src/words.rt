@@ -190,6 +190,8 @@ pub struct Compact<'w> {
 pub struct Transcribe<'w> {
     /// The file that the feed takes the place of; standard output unless given.
     pub save_to: Option<&'w str>,
+    /// The feed's file behind which to go on, if there is one.
+    pub after: Option<&'w str>,
     /// The shard of the stream whose feed it is.
     pub shard: &'w str,
     /// The schema that the logs have its tables in; the keyspace's name unless given.

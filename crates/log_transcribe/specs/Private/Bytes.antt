@@ -16,7 +16,6 @@ use Rattle.log_laws.specs.declared.fault.TellFault.{TellFault}
 use Rattle.log_laws.specs.declared.fault.TellFault.TheVariants.{Change}
 use Rattle.log_laws.specs.Source.{SourceTables}
 use Rattle.log_laws.specs.Transcript.{Far, Messages, place_told, written}
-use Rattle.log_transcribe.specs.declared.fault.LogsFault.{LogsFault}
 use Rattle.log_transcribe.specs.declared.fault.LogsFault.TheVariants.{Course, Tell}
 use Rattle.log_transcribe.specs.declared.fault.LogsError.{LogsError}
 use Rattle.log_transcribe.specs.declared.fault.LogsError.TheVariants.{Memory, Fault}

@@ -1,15 +1,17 @@
 -- What the steps of `transcribe` answer.
-use Rattle.std.specs.Prelude.{◌≡◌, ℕ, Bool, List, ◌++◌, codes, Option, None, Some, Result, Ok, Err}
+use Rattle.std.specs.Prelude.{◌≡◌, ℕ, Bool, List, ◌++◌, codes, Option, None, Some, IfSome, Result, Ok, Err}
 use Rattle.filter_rule.specs.PlanTable.{TableValue, name_of_table}
 use Rattle.filter_rule.specs.PlanValue.{PlanValue}
 use Rattle.log_laws.specs.Source.{SourceTables}
-use Rattle.log_transcribe.specs.Transcript.{feed_of_logs}
+use Rattle.source_feed.specs.FaultNumber.{meant_of}
 use Rattle.log_transcribe.specs.declared.fault.LogsFault.{LogsFault}
+use Rattle.log_transcribe.specs.declared.fault.BehindError.{BehindError}
+use Rattle.log_transcribe.specs.declared.fault.BehindError.TheVariants as behind_error
 use Rattle.printing.specs.Printing.{Written, IsWritten, BreaksOff}
 use Rattle.vrepl_transcribe.specs.Source.{first_unplain}
-use Rattle.vrepl_transcribe.specs.Transcribed.{AskedValue, WhyNot, SaysWhy, feed_under, line_of, logs_line}
+use Rattle.vrepl_transcribe.specs.Transcribed.{AskedValue, WhyNot, unread_feed, unread_logs, SaysWhy, of_behind, feed_from, feed_under, line_of, logs_line}
 use Rattle.vrepl_transcribe.specs.declared.transcribing.Untranscribed.{Untranscribed}
-use Rattle.vrepl_transcribe.specs.declared.transcribing.Untranscribed.TheVariants.{Memory, Line}
+use Rattle.vrepl_transcribe.specs.declared.transcribing.Untranscribed.TheVariants.{Memory, Feed, Line}
 use Rattle.vrepl_transcribe.specs.declared.transcribing.TranscribeEnd.{TranscribeEnd}
 use Rattle.vrepl_transcribe.specs.declared.transcribing.TranscribeEnd.TheVariants as end
 use Rattle.std.specs.Arc.{arc_value}
@@ -32,17 +34,25 @@ AnswersNames tables (Err why) = ⊥
 abbrev pub SaysFault : List (List ℕ) → SourceTables → LogsFault → List ℕ → Type 0
 SaysFault names s fault line = (byte : Option ℕ) × (line ≡ logs_line names s.tables fault byte)
 
--- the feed of logs, or the line of their first fault
-abbrev pub AnswersLogs : List (List ℕ) → SourceTables → List (List ℕ) → Result (List ℕ) Untranscribed → Type 0
-AnswersLogs names s logs (Ok feed) = feed_of_logs s logs ≡ Ok feed
-AnswersLogs names s logs (Err Memory) = Unit {0}
-AnswersLogs names s logs (Err (Line line)) = (fault : LogsFault) × (feed_of_logs s logs ≡ Err fault) × SaysFault names s fault line.items
-AnswersLogs names s logs (Err why) = ⊥
+-- the same, or what is wrong
+abbrev pub GivesMade : SourceTables → Option (List ℕ) → List (List ℕ) → Result (List ℕ) BehindError → Type 0
+GivesMade s after logs (Ok feed) = feed_from s after logs ≡ Ok feed
+GivesMade s after logs (Err behind_error.Memory) = Unit {0}
+GivesMade s after logs (Err (behind_error.Fault fault)) = feed_from s after logs ≡ of_behind s (Err fault)
+
+-- the feed of logs, or what they have behind one; or the fault of that one, or the line of the logs' first fault
+abbrev pub AnswersLogs : List (List ℕ) → SourceTables → Option (List ℕ) → List (List ℕ) → Result (List ℕ) Untranscribed → Type 0
+AnswersLogs names s after logs (Ok feed) = feed_from s after logs ≡ Ok feed
+AnswersLogs names s after logs (Err Memory) = Unit {0}
+AnswersLogs names s after logs (Err (Feed fault)) = IfSome (meant_of fault) (λ f. feed_from s after logs ≡ Err (unread_feed f))
+AnswersLogs names s after logs (Err (Line line)) = (fault : LogsFault) × (feed_from s after logs ≡ Err (unread_logs s fault)) × SaysFault names s fault line.items
+AnswersLogs names s after logs (Err why) = ⊥
 
 -- the feed under a plan, or the line that says why not
 abbrev pub AnswersUnder : AskedValue → PlanValue → Result (List ℕ) Untranscribed → Type 0
 AnswersUnder a plan (Ok feed) = feed_under a plan ≡ Ok feed
 AnswersUnder a plan (Err Memory) = Unit {0}
+AnswersUnder a plan (Err (Feed fault)) = IfSome (meant_of fault) (λ f. feed_under a plan ≡ Err (unread_feed f))
 AnswersUnder a plan (Err (Line line)) = (why : WhyNot) × (feed_under a plan ≡ Err why) × SaysWhy a why line.items
 AnswersUnder a plan (Err why) = ⊥
 

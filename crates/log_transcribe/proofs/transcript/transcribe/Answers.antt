@@ -1,4 +1,4 @@
-use Rattle.std.proofs.Common.{◌≤◌, ◌<◌, ◌^◌, length, map, sym, arith}
+use Rattle.std.proofs.Common.{map, sym, arith}
 use Rattle.std.proofs.lemmas.List.{length-map}
 use Rattle.log_transcribe.specs.Transcript.{source_value}
 use Rattle.log_transcribe.proofs.WritingLaws.{feed-given, feed-long, feed-refused}
