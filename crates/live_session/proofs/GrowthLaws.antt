@@ -1,5 +1,5 @@
 -- Feeds that grow by what has come, one after another.
-use Rattle.std.proofs.Common.{◌≡◌, ℕ, zero, suc, ◌+◌, ◌≤◌, List, [], ◌∷◌, ◌++◌, length, take, drop, append_assoc, length-append, Some, slice_get, set, refl, sym, ap, subst, ◌∙◌, arith}
+use Rattle.std.proofs.Common.{◌≡◌, ℕ, zero, suc, ◌+◌, ◌<◌, ◌≤◌, List, [], ◌∷◌, ◌++◌, length, take, drop, append_assoc, length-append, None, Some, slice_get, set, refl, sym, ap, subst, ◌∙◌, arith}
 use Rattle.std.proofs.lemmas.List.{take-append-drop}
 use Rattle.std.proofs.lemmas.Option.{same_Some}
 use Rattle.source_feed.specs.Planned.{FeedValue, PlannedGroupValue}
@@ -113,3 +113,11 @@ come-one s piece taken old new took board told = record {
   bytes = λ t bytes known. subst (λ (all : List (List ℕ)). AreFollowed bytes all t) (sym took.grown) (followed-set old.bytes s t took.bytes (take taken piece) bytes took.known known);
   feeds = λ t feed there. subst (λ (all : List FeedValue). IsThereLonger feed all t) (sym took.feeds) (longer-set old.fed.feeds s t took.before took.after feed took.longer took.there there);
 }
+
+-- ---- what there is
+
+-- there is an item at each place within a list
+pub is_there : {A : Type 0} (X : Type 0) (xs : List A) (s : ℕ) → slice_get xs s ≡ None → s < length xs → X
+is_there X [] s none within = absurd (omega (arith, within))
+is_there X (x ∷ xs) zero none within = cc
+is_there X (x ∷ xs) (suc s) none within = is_there X xs s none (omega (arith, within))

@@ -2,6 +2,7 @@ pub mod PageLaws
 pub mod CountLaws
 pub mod GrowthLaws
 pub mod NoteLaws
+pub mod SeatLaws
 pub mod TurnLaws
 pub mod Walking
 pub mod StopLaws

@@ -127,6 +127,11 @@ pub record IsCounts (rows : TargetRows) (streams : ℕ) (text : List ℕ) (plan 
 
 -- ---- save
 
+-- how many bytes a checkpoint has that was kept, or why it wasn't
+abbrev pub kept_line : {X : Type 0} → ℕ → Result X SaveFault → List ℕ
+kept_line size (Ok kept) = ok_line (saved_data size)
+kept_line size (Err fault) = refusal_line (number_of_save fault)
+
 -- the bytes of the board's checkpoint are told, or why it isn't kept
 abbrev pub IsSaved : Meaning → List ℕ → Type 0
 IsSaved board text = (text ≡ ok_line (saved_data (length (checkpoint_of board)))) ⊎ ((fault : SaveFault) × (text ≡ refusal_line (number_of_save fault)))

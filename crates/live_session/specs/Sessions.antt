@@ -1,5 +1,6 @@
 -- A session, and what it tells of the streams of its board (this profile).
-use Rattle.std.specs.Prelude.{◌≡◌, ℕ, List, [], length, Option, Some, MatchOption, option_map, slice_get}
+use Rattle.std.specs.Prelude.{◌≡◌, ℕ, ◌-◌, List, [], length, Option, Some, MatchOption, option_map, slice_get}
+use Rattle.std.specs.Option.{option_map_or}
 use Rattle.filter_rule.specs.PlanTable.{TableValue}
 use Rattle.filter_rule.specs.PlanValue.{PlanValue}
 use Rattle.pk_copy.specs.Marks.{Marks, mark_of}
@@ -11,7 +12,7 @@ use Rattle.board_laws.specs.Meaning.{State}
 use Rattle.board_laws.specs.Sources.{applied_position}
 use Rattle.live_core.specs.Live.{LiveValue}
 use Rattle.live_json.specs.Answers.{CopiedValue, StreamValue, position_text}
-use Rattle.live_session.specs.Stops.{refusal_of}
+use Rattle.live_session.specs.Stops.{fresh_seat, refusal_of}
 use Rattle.live_session.specs.declared.seat.Seat.{Seat}
 
 -- a board that goes on, and what is known of each stream's feed
@@ -25,6 +26,17 @@ session_of live seats = record { live = live; seats = seats }
 -- the plan of the first stream, which has the tables of all
 abbrev pub first_plan : LiveValue → Option PlanValue
 first_plan live = option_map (λ (feed : FeedValue). feed.plan) (slice_get live.fed.feeds 0)
+
+-- ---- how it begins
+
+-- how many bytes of the feed of stream s have come and aren't taken
+abbrev pub tail_at : List (List ℕ) → LiveValue → ℕ → ℕ
+tail_at come live s = option_map_or (λ bytes. length bytes) (slice_get come s) 0 - option_map_or (λ bytes. length bytes) (slice_get live.bytes s) 0
+
+-- a seat for each stream, in which nothing is known of its feed but that
+pub record AreFresh (come : List (List ℕ)) (live : LiveValue) (seats : List Seat) : Type 0 where
+  pub count : length seats ≡ length live.fed.feeds
+  pub each : (s : ℕ) (seat : Seat) → slice_get seats s ≡ Some seat → seat ≡ fresh_seat (tail_at come live s)
 
 -- ---- what is told of a stream
 

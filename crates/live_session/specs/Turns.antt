@@ -1,6 +1,6 @@
 -- The turns of a session: a line is taken off the input, and answered on the output (this profile).
 use Rattle.std.specs.Prelude.{◌≡◌, ◌≢◌, ◌⊎◌, ℕ, List, [], ◌∷◌, Bool, true, false, Option, None, Some}
-use Rattle.printing.specs.Printing.{IsWritten, Written}
+use Rattle.printing.specs.Printing.{BreaksOff, IsWritten, Written}
 use Rattle.board_laws.specs.FedBoards.{IsFedBoard}
 use Rattle.live_core.specs.Live.{IsLive}
 use Rattle.live_requests.specs.Lines.{IsFound}
@@ -88,3 +88,23 @@ pub record IsServed (old new : Stand) : Type 0 where
   pub between : Stand
   pub turns : AreTurns requests old between
   pub ends : HasFinished between new
+
+-- Why a turn isn't taken, and what it leaves: the next line can't be read, and nothing else has happened; or a line was taken,
+-- and a beginning of its answer was written. None wants memory.
+abbrev pub BreaksTurn : ServeFault → Stand → Stand → Type 0
+BreaksTurn serve.CannotRead old new = (new.session ≡ old.session) × (new.output ≡ old.output)
+BreaksTurn serve.CannotWrite old new =
+    (asked : Option Asked) × IsLineTaken old.input new.input asked × (text : List ℕ) × IsAnswer asked old.session text new.session × BreaksOff old.output new.output text
+BreaksTurn serve.Memory old new = ⊥
+
+-- requests were answered in order, up to a turn that wasn't taken
+pub record BreaksBehind (fault : ServeFault) (old new : Stand) : Type 0 where
+  pub requests : List (Option Asked)
+  pub between : Stand
+  pub turns : AreTurns requests old between
+  pub breaks : BreaksTurn fault between new
+
+-- A session was broken off: behind answers, or for want of memory before a line was read.
+abbrev pub IsBroken : ServeFault → Stand → Stand → Type 0
+IsBroken serve.Memory old new = new ≡ old
+IsBroken fault old new = BreaksBehind fault old new

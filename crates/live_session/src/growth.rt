@@ -1,7 +1,9 @@
 //! Feeds that grow by what has come.
 
-ghost use Rattle.std.specs.Prelude.{◌≡◌, ◌≤◌, length};
-ghost use Rattle.live_session.specs.Growths.{HaveCome};
+ghost use Rattle.std.specs.Prelude.{◌≡◌, ◌<◌, ◌≤◌, false, length};
+ghost use Rattle.std.specs.Option.{option_map_or};
+ghost use Rattle.live_session.specs.Growths.{HasGrown, HaveCome, IsNoted};
+ghost use Rattle.live_session.specs.Stops.{lasts};
 
 use crate::arrivals::{ArrivalFault, Arrivals, Arrived};
 use crate::seat::{Seat, Stopped};
@@ -36,7 +38,9 @@ fn grow_by<'h>(
     s: u8,
     arrived: Arrived<'h>,
 ) -> u32
-    ensures { HaveCome result live.old live.new }
+    requires { s < length live.old.bytes }
+    ensures come { HaveCome result live.old live.new }
+    ensures noted { IsNoted s arrived.entry.piece.now result seat.new.stopped live.old live.new }
 {
     let come = arrived.piece.len() as u64;
     seat.tail = come.saturating_add(arrived.waiting);
@@ -68,7 +72,10 @@ fn grow_one<'h, R: Wait, A: Arrivals<'h>>(
     arrivals: &mut A,
     s: u8,
 ) -> u32
-    ensures { HaveCome result live.old live.new }
+    requires { s < length live.old.fed.feeds }
+    ensures come { HaveCome result live.old live.new }
+    // A feed that doesn't grow any more is left as it is.
+    ensures grown { HasGrown (option_map_or lasts seat.old.stopped false) s seat.old seat.new live.old live.new }
 {
     if seat.is_closed() {
         return 0;
@@ -97,6 +104,7 @@ pub(crate) fn growth<'h, R: Wait, A: Arrivals<'h>>(
     arrivals: &mut A,
 ) -> u64
     requires few { length seats.old ≤ 64 }
+    requires count { length seats.old ≡ length live.old.fed.feeds }
     ensures come { HaveCome result live.old live.new }
     ensures seats { length seats.new ≡ length seats.old }
 {

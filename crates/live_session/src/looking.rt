@@ -2,11 +2,11 @@
 
 ghost use Rattle.std.specs.Prelude.{◌≡◌, ◌<◌, Some, length, option_map};
 ghost use Rattle.std.specs.Arc.{arc_value};
-ghost use Rattle.live_session.specs.Answered.{Answers, IsCounts, IsKeyed, IsRow, IsRows, IsSaved, IsState, page_line, refusal_line, row_line};
+ghost use Rattle.live_session.specs.Answered.{Answers, IsCounts, IsKeyed, IsRow, IsRows, IsSaved, IsState, kept_line, page_line, refusal_line, row_line};
 ghost use Rattle.live_session.specs.Sessions.{first_plan, session_of};
 ghost use Rattle.printing.specs.Printing.{Prints};
 
-use crate::arrivals::Arrivals;
+use crate::arrivals::{Arrivals, SaveFault};
 use crate::counts::all_counts;
 use crate::page::{first_key, page_from};
 use crate::seat::Seat;
@@ -152,6 +152,16 @@ pub(crate) fn tell_counts<O: Out>(
     Ok(print_counts(out, &counts))
 }
 
+/// Tells how many bytes a checkpoint has that was kept, or why it wasn't.
+fn tell_kept<O: Out>(kept: Result<(), SaveFault>, size: u64, out: &mut O) -> Result<(), OutFailed>
+    ensures { Prints result (O.written out.old) (O.written out.new) (kept_line size kept) }
+{
+    match kept {
+        Ok(()) => print_saved(out, size),
+        Err(fault) => refuse(out, fault.number()),
+    }
+}
+
 /// Has the checkpoint kept, and tells how many bytes it has.
 pub(crate) fn tell_saved<'h, A: Arrivals<'h>, O: Out>(
     alloc: Global,
@@ -162,8 +172,6 @@ pub(crate) fn tell_saved<'h, A: Arrivals<'h>, O: Out>(
     ensures { Answers (IsSaved live.now.fed.board) result (O.written out.old) (O.written out.new) }
 {
     let checkpoint = live.checkpoint(alloc)?;
-    match arrivals.save(&checkpoint) {
-        Ok(()) => Ok(print_saved(out, checkpoint.len() as u64)),
-        Err(fault) => Ok(refuse(out, fault.number())),
-    }
+    let kept = arrivals.save(&checkpoint);
+    Ok(tell_kept(kept, checkpoint.len() as u64, out))
 }

@@ -1,9 +1,10 @@
 //! The loop of a session.
 
-ghost use Rattle.std.specs.Prelude.{◌≡◌, IfOk, OnOk, length, not, option_map};
+ghost use Rattle.std.specs.Prelude.{◌≡◌, IfOk, IfErr, OnOk, length, not, option_map};
 ghost use Rattle.live_requests.specs.Requests.{request_value};
 ghost use Rattle.live_session.specs.Sessions.{session_of};
-ghost use Rattle.live_session.specs.Turns.{IsNext, IsServed, IsTurned, is_last, number_of_serve, stand_of};
+ghost use Rattle.live_session.specs.declared.serve.ServeFault.TheVariants.{CannotRead};
+ghost use Rattle.live_session.specs.Turns.{BreaksTurn, IsBroken, IsNext, IsServed, IsTurned, is_last, number_of_serve, stand_of};
 
 use crate::answer::answer;
 use crate::arrivals::Arrivals;
@@ -46,7 +47,8 @@ fn next_request<'l, I: Read>(
     lines: &'l mut Lines,
     input: &mut I,
 ) -> Result<Option<Option<Request<'l>>>, ServeFault>
-    ensures { IfOk result (λ next. IsNext (I.remaining input.old) (I.remaining input.new) (option_map (λ asked. option_map request_value asked) next)) }
+    ensures next { IfOk result (λ next. IsNext (I.remaining input.old) (I.remaining input.new) (option_map (λ asked. option_map request_value asked) next)) }
+    ensures fault { IfErr result (λ fault. fault ≡ CannotRead) }
 {
     match lines.next(input) {
         Err(_) => Err(ServeFault::CannotRead),
@@ -77,6 +79,7 @@ fn turn<'h, R: Threads + Wait + Sync, A: Arrivals<'h>, I: Read, O: Out>(
 ) -> Result<bool, ServeFault>
     requires { length seats.old ≡ length live.old.fed.feeds }
     ensures turned { IfOk result (IsTurned (stand_of (I.remaining input.old) (session_of live.old seats.old) (O.written out.old)) (stand_of (I.remaining input.new) (session_of live.new seats.new) (O.written out.new))) }
+    ensures broken { IfErr result (λ fault. BreaksTurn fault (stand_of (I.remaining input.old) (session_of live.old seats.old) (O.written out.old)) (stand_of (I.remaining input.new) (session_of live.new seats.new) (O.written out.new))) }
     ensures seats { length seats.new ≡ length live.new.fed.feeds }
 {
     let Some(request) = next_request(lines, input)? else {
@@ -101,6 +104,7 @@ pub(crate) fn serve_all<'h, R: Threads + Wait + Sync, A: Arrivals<'h>, I: Read, 
 ) -> Result<(), ServeFault>
     requires { length seats.old ≡ length live.old.fed.feeds }
     ensures served { OnOk result (IsServed (stand_of (I.remaining input.old) (session_of live.old seats.old) (O.written out.old)) (stand_of (I.remaining input.new) (session_of live.new seats.new) (O.written out.new))) }
+    ensures broken { IfErr result (λ fault. IsBroken fault (stand_of (I.remaining input.old) (session_of live.old seats.old) (O.written out.old)) (stand_of (I.remaining input.new) (session_of live.new seats.new) (O.written out.new))) }
     ensures seats { length seats.new ≡ length live.new.fed.feeds }
 {
     let Ok(mut lines) = Lines::new(alloc) else {

@@ -1,9 +1,12 @@
 //! A session.
 
-ghost use Rattle.std.specs.Prelude.{◌≡◌, IfOk, OnOk, length};
+ghost use Rattle.std.specs.Prelude.{◌≡◌, IfErr, IfOk, OnOk, length, map, slice_get};
+ghost use Rattle.std.specs.Option.{option_map_or};
 ghost use Rattle.board_laws.specs.FedBoards.{IsFedBoard};
 ghost use Rattle.live_core.specs.Live.{IsLive};
-ghost use Rattle.live_session.specs.Turns.{IsServed, stand_of};
+ghost use Rattle.live_session.specs.Sessions.{AreFresh, tail_at};
+ghost use Rattle.live_session.specs.Stops.{fresh_seat};
+ghost use Rattle.live_session.specs.Turns.{IsBroken, IsServed, stand_of};
 
 use crate::arrivals::Arrivals;
 use crate::seat::Seat;
@@ -35,22 +38,35 @@ impl<'h> Model for Session<'h> {
     ghost invariant = { λ s. length s.seats.items ≡ length s.live.fed.feeds };
 }
 
+/// How many bytes of the feed of stream `s` had come.
+fn come_of(come: &[Vec<u8>], s: u8) -> u64
+    ensures { result ≡ option_map_or (λ bytes. length bytes) (slice_get (map (λ bytes. bytes.items) come.now) s) 0 }
+{
+    match come.get(s as usize) {
+        None => 0,
+        Some(bytes) => bytes.len() as u64,
+    }
+}
+
+/// A seat for stream `s` of a board, of whose feed these bytes had come.
+fn seat_of<'h>(live: &Live<'_>, come: &[Vec<u8>], s: u8) -> Seat<'h>
+    ensures { result ≡ fresh_seat (tail_at (map (λ bytes. bytes.items) come.now) live.now s) }
+{
+    Seat::new(come_of(come, s).saturating_sub(live.taken(s)))
+}
+
 /// A seat for each stream of a board, of whose feed so many bytes had come.
 fn seats_for<'h>(
     alloc: Global,
     live: &Live<'_>,
     come: &[Vec<u8>],
 ) -> Result<Vec<Seat<'h>>, AllocError>
-    ensures { IfOk result (λ seats. length seats.items ≡ length live.now.fed.feeds) }
+    ensures { IfOk result (λ seats. AreFresh (map (λ bytes. bytes.items) come.now) live.now seats.items) }
 {
     live.fed().is_fed();
     let mut seats = Vec::new(alloc);
     for s in 0..live.fed().feeds().len() {
-        let size = match come.get(s) {
-            None => 0,
-            Some(bytes) => bytes.len() as u64,
-        };
-        seats.push(Seat::new(size.saturating_sub(live.taken(s as u8))))?;
+        seats.push(seat_of(live, come, s as u8))?;
     }
     Ok(seats)
 }
@@ -58,7 +74,9 @@ fn seats_for<'h>(
 impl<'h> Session<'h> {
     /// A session over a board, of whose feeds these bytes had come. An error is want of memory.
     pub fn new(alloc: Global, live: Live<'h>, come: &[Vec<u8>]) -> Result<Session<'h>, AllocError>
-        ensures { IfOk result (λ session. session.live ≡ live.entry) }
+        ensures live { IfOk result (λ session. session.live ≡ live.entry) }
+        // Of each feed nothing is known but how many bytes had come and aren't taken.
+        ensures fresh { IfOk result (λ session. AreFresh (map (λ bytes. bytes.items) come.now) live.entry session.seats) }
     {
         let seats = seats_for(alloc, &live, come)?;
         Ok(Session { live, seats })
@@ -88,6 +106,8 @@ impl<'h> Session<'h> {
     ) -> Result<(), ServeFault>
         // Each line of the input was answered, in order.
         ensures served { OnOk result (IsServed (stand_of (I.remaining input.old) self.old (O.written out.old)) (stand_of (I.remaining input.new) self.new (O.written out.new))) }
+        // Else they were, up to one that couldn't be read, or whose answer couldn't be written.
+        ensures broken { IfErr result (λ fault. IsBroken fault (stand_of (I.remaining input.old) self.old (O.written out.old)) (stand_of (I.remaining input.new) self.new (O.written out.new))) }
         // However it ends, the board shows its sources, and is lawful.
         ensures live { IsLive self.new.live }
         ensures fed { IsFedBoard self.new.live.fed.feeds self.new.live.fed.board }

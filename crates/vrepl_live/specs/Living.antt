@@ -12,8 +12,8 @@ use Rattle.live_core.specs.Live.{LiveValue}
 use Rattle.live_opening.specs.Opened.{IsOpened, IsUnopened}
 use Rattle.live_opening.specs.declared.unopened.Unopened.{Unopened}
 use Rattle.live_opening.specs.declared.unopened.Unopened.TheVariants.{Workflow, FeedCount, Feed, Checkpoint, Stream}
-use Rattle.live_session.specs.Sessions.{SessionValue}
-use Rattle.live_session.specs.Turns.{IsServed, number_of_serve, stand_of}
+use Rattle.live_session.specs.Sessions.{AreFresh, SessionValue}
+use Rattle.live_session.specs.Turns.{IsBroken, IsServed, number_of_serve, stand_of}
 use Rattle.live_session.specs.declared.serve.ServeFault.{ServeFault}
 use Rattle.live_session.specs.declared.serve.ServeFault.TheVariants as serve
 use Rattle.vrepl_live.specs.declared.living.LiveInputs.{LiveInputs}
@@ -69,18 +69,36 @@ pub record Outside : Type 0 where
 abbrev pub outside : Option (List ℕ) → Written → Written → Outside
 outside input answers refusals = record { input = input; answers = answers; refusals = refusals }
 
--- From this board a session was served: its requests were answered in order, until `end` or the input's end.
-pub record HasServed (live : LiveValue) (input : Option (List ℕ)) (written : Written) (input_left : Option (List ℕ)) (written_then : Written) : Type 0 where
-  pub start : SessionValue
+-- A session over this board begins, and it is known how many bytes of its feeds had come.
+pub record IsStart (live : LiveValue) (come : List (List ℕ)) (start : SessionValue) : Type 0 where
   pub of_board : start.live ≡ live
+  pub fresh : AreFresh come live start.seats
+
+-- From this board a session was served: its requests were answered in order, until `end` or the input's end.
+pub record HasServed (live : LiveValue) (come : List (List ℕ)) (input : Option (List ℕ)) (written : Written) (input_left : Option (List ℕ)) (written_then : Written) : Type 0 where
+  pub start : SessionValue
+  pub begins : IsStart live come start
   pub end : SessionValue
   pub served : IsServed (stand_of input start written) (stand_of input_left end written_then)
 
--- the same from the board that the inputs make
+-- From this board one was broken off: its requests were answered in order, up to one that couldn't be read, or whose answer
+-- couldn't be written.
+pub record HasStopped (live : LiveValue) (come : List (List ℕ)) (input : Option (List ℕ)) (written : Written) (input_left : Option (List ℕ)) (written_then : Written) (fault : ServeFault) : Type 0 where
+  pub start : SessionValue
+  pub begins : IsStart live come start
+  pub end : SessionValue
+  pub broken : IsBroken fault (stand_of input start written) (stand_of input_left end written_then)
+
+-- Or there was no memory for it, and nothing was read or answered.
+abbrev pub HasBroken : LiveValue → List (List ℕ) → Option (List ℕ) → Written → Option (List ℕ) → Written → ServeFault → Type 0
+HasBroken live come input written input_left written_then serve.Memory = (input_left ≡ input) × (written_then ≡ written)
+HasBroken live come input written input_left written_then fault = HasStopped live come input written input_left written_then fault
+
+-- from the board that the inputs make a session was served
 pub record HasLived (inputs : LiveInputs) (old new : Outside) : Type 0 where
   pub live : LiveValue
   pub opened : IsOpenedBy inputs live
-  pub served : HasServed live old.input old.answers new.input new.answers
+  pub served : HasServed live (come_of inputs) old.input old.answers new.input new.answers
 
 -- There is no board to start from, and the line says why. Nothing was read, and nothing answered.
 pub record HasNotBegun (inputs : LiveInputs) (old new : Outside) : Type 0 where
@@ -90,11 +108,12 @@ pub record HasNotBegun (inputs : LiveInputs) (old new : Outside) : Type 0 where
   pub answers : new.answers ≡ old.answers
   pub line : PrintsOrBreaks old.refusals new.refusals (unopened_line unopened)
 
--- From the board that the inputs make a session was begun, and broken off: the line says why.
+-- From the board that the inputs make a session was served, and broken off: the line says why.
 pub record HasBrokenOff (inputs : LiveInputs) (old new : Outside) : Type 0 where
   pub live : LiveValue
   pub opened : IsOpenedBy inputs live
   pub fault : ServeFault
+  pub broken : HasBroken live (come_of inputs) old.input old.answers new.input new.answers fault
   pub line : PrintsOrBreaks old.refusals new.refusals (broken_line fault)
 
 abbrev pub HasRefused : LiveInputs → Outside → Outside → Type 0

@@ -1,7 +1,7 @@
 //! The subcommand `live`.
 
-ghost use Rattle.std.specs.Prelude.{◌≡◌, ◌≤◌, IfOk, IfErr, OnOk};
-ghost use Rattle.vrepl_live.specs.Living.{HasServed, IsOpenedBy, IsUnopenedBy, LiveEnds, outside};
+ghost use Rattle.std.specs.Prelude.{◌≡◌, ◌≤◌, IfOk, IfErr, OnOk, map};
+ghost use Rattle.vrepl_live.specs.Living.{HasBroken, HasServed, IsOpenedBy, IsUnopenedBy, LiveEnds, outside};
 
 use crate::refusing::{as_unfollowed, fault_refusal};
 use live_core::Live;
@@ -53,7 +53,8 @@ fn serve_over<'h, R: Threads + Wait + Sync, A: Arrivals<'h>, I: Read, W: Out>(
     input: &mut I,
     out: &mut W,
 ) -> Result<(), ServeFault>
-    ensures served { OnOk result (HasServed live.entry (I.remaining input.old) (W.written out.old) (I.remaining input.new) (W.written out.new)) }
+    ensures served { OnOk result (HasServed live.entry (map (λ bytes. bytes.items) come.now) (I.remaining input.old) (W.written out.old) (I.remaining input.new) (W.written out.new)) }
+    ensures broken { IfErr result (HasBroken live.entry (map (λ bytes. bytes.items) come.now) (I.remaining input.old) (W.written out.old) (I.remaining input.new) (W.written out.new)) }
 {
     let Ok(mut session) = Session::new(alloc, live, come) else {
         return Err(ServeFault::Memory);

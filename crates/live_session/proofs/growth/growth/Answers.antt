@@ -7,7 +7,7 @@ loop-s-init g c = record { come = come_none c.args.live.now c.args.live.now refl
 
 pub loop-s-preserved : goal.loop-s-preserved
 loop-s-preserved g c = record {
-  come = come-more c.loop-s.bytes c.grow_one.result _ c.args.live.now c.loop-s.live c.grow_one.new.live c.loop-s.invariant.come c.grow_one.ensures (omega (arith, c.from-bytes.ensures));
+  come = come-more c.loop-s.bytes c.grow_one.result _ c.args.live.now c.loop-s.live c.grow_one.new.live c.loop-s.invariant.come c.grow_one.ensures.come (omega (arith, c.from-bytes.ensures));
   count = length-set c.loop-s.seats c.loop-s.s c.grow_one.new.seat ∙ c.loop-s.invariant.count;
   few = omega arith;
 }
