@@ -45,6 +45,7 @@ SWEPT = {
     "board_tests": IN_MEMORY,
     "checkpoint_tests": IN_MEMORY,
     "worker_tests": IN_MEMORY,
+    "rounds_tests": {"without_memory": EACH_GROWTH, "": 0},
     "program_tests": {"replies::": 3},
 }
 SCRIPTS_AT_RANDOM = 60

@@ -282,7 +282,9 @@ fn keeps_the_board<R: Threads + Wait + Sync>(
             }
         }
     }
-    run_round(rt, alloc, threading, &mut fed, 10)?;
+    for _ in 0..2 {
+        run_round(rt, alloc, threading, &mut fed, 10)?;
+    }
     let saved = save(alloc, fed.board())?;
     Ok(saved == ran(alloc, WORKFLOW, &bytes)?)
 }
