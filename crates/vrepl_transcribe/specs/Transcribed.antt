@@ -24,7 +24,7 @@ use Rattle.printing.specs.Printing.{Written, IsWritten, BreaksOff}
 use Rattle.vrepl_transcribe.specs.Source.{plan_of_shard, first_unplain, source_in}
 use Rattle.vrepl_transcribe.specs.declared.inputs.TranscribeInputs.{TranscribeInputs}
 use Rattle.vrepl_transcribe.specs.declared.transcribing.Untranscribed.{Untranscribed}
-use Rattle.vrepl_transcribe.specs.declared.transcribing.Untranscribed.TheVariants as not
+use Rattle.vrepl_transcribe.specs.declared.transcribing.Untranscribed.TheVariants as unmade
 use Rattle.vrepl_transcribe.specs.declared.transcribing.TranscribeEnd.{TranscribeEnd}
 use Rattle.vrepl_transcribe.specs.declared.transcribing.TranscribeEnd.TheVariants as end
 
@@ -139,11 +139,11 @@ SaysWhy a why line = ⊥
 
 -- why there is no feed, which is the definition's reason, unless it is want of memory
 abbrev pub IsWhy : AskedValue → Untranscribed → Type 0
-IsWhy a not.Memory = Unit {0}
-IsWhy a (not.Workflow fault) = IfSome (plans.definition_fault_of fault) (λ f. feed_asked a ≡ Err (unread_workflow f))
-IsWhy a not.NoStream = feed_asked a ≡ Err no_stream
-IsWhy a (not.Feed fault) = IfSome (feeds.meant_of fault) (λ f. feed_asked a ≡ Err (unread_feed f))
-IsWhy a (not.Line line) = (why : WhyNot) × (feed_asked a ≡ Err why) × SaysWhy a why line.items
+IsWhy a unmade.Memory = Unit {0}
+IsWhy a (unmade.Workflow fault) = IfSome (plans.definition_fault_of fault) (λ f. feed_asked a ≡ Err (unread_workflow f))
+IsWhy a unmade.NoStream = feed_asked a ≡ Err no_stream
+IsWhy a (unmade.Feed fault) = IfSome (feeds.meant_of fault) (λ f. feed_asked a ≡ Err (unread_feed f))
+IsWhy a (unmade.Line line) = (why : WhyNot) × (feed_asked a ≡ Err why) × SaysWhy a why line.items
 
 -- the feed of the definition, or why there is none
 abbrev pub Answers : AskedValue → Result (List ℕ) Untranscribed → Type 0
