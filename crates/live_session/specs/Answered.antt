@@ -19,7 +19,8 @@ use Rattle.live_requests.specs.Requests.{Asked}
 use Rattle.live_session.specs.Counts.{AreAllCounts}
 use Rattle.live_session.specs.Growths.{HaveCome}
 use Rattle.live_session.specs.Pages.{page_of}
-use Rattle.live_session.specs.Sessions.{SessionValue, AreTold, first_plan}
+use Rattle.live_session.specs.Saves.{saved_then}
+use Rattle.live_session.specs.Sessions.{KeptSession, SessionValue, AreTold, first_plan}
 use Rattle.live_session.specs.Stops.{known_refusal, number_of_save}
 use Rattle.live_session.specs.declared.arrivals.SaveFault.{SaveFault}
 use Rattle.live_session.specs.declared.seat.Seat.{Seat}
@@ -128,35 +129,37 @@ pub record IsCounts (rows : TargetRows) (streams : ℕ) (text : List ℕ) (plan 
 -- ---- save
 
 -- how many bytes a checkpoint has that was kept, or why it wasn't
-abbrev pub kept_line : {X : Type 0} → ℕ → Result X SaveFault → List ℕ
-kept_line size (Ok kept) = ok_line (saved_data size)
+abbrev pub kept_line : ℕ → Result (Unit {0}) SaveFault → List ℕ
+kept_line size (Ok done) = ok_line (saved_data size)
 kept_line size (Err fault) = refusal_line (number_of_save fault)
 
--- the bytes of the board's checkpoint are told, or why it isn't kept
-abbrev pub IsSaved : Meaning → List ℕ → Type 0
-IsSaved board text = (text ≡ ok_line (saved_data (length (checkpoint_of board)))) ⊎ ((fault : SaveFault) × (text ≡ refusal_line (number_of_save fault)))
+-- the board's checkpoint was to be kept, and what was answered to that is told
+pub record IsSaved (board : Meaning) (old new : Option (List (List ℕ))) (text : List ℕ) : Type 0 where
+  pub answer : Result (Unit {0}) SaveFault
+  pub kept : new ≡ saved_then (checkpoint_of board) answer old
+  pub line : text ≡ kept_line (length (checkpoint_of board)) answer
 
 -- ---- all
 
--- what a request is answered, and what it leaves
-abbrev pub IsAnsweredAs : Asked → SessionValue → List ℕ → SessionValue → Type 0
-IsAnsweredAs (asked.more groups) old text new = IsMore old new text
-IsAnsweredAs asked.state old text new = (new ≡ old) × IsState old text
-IsAnsweredAs asked.changes old text new = HasTold old new × IsChanges old text
-IsAnsweredAs asked.told old text new = HasTold old new × IsToldCount old text
-IsAnsweredAs (asked.rows table most from) old text new = (new ≡ old) × IsSomeAnd (first_plan old.live) (IsRows old.live.fed.board.rows table most from text)
-IsAnsweredAs (asked.row table key) old text new = (new ≡ old) × IsSomeAnd (first_plan old.live) (IsRow old.live.fed.board.rows table key text)
-IsAnsweredAs asked.counts old text new = (new ≡ old) × IsSomeAnd (first_plan old.live) (IsCounts old.live.fed.board.rows (length old.live.fed.board.streams) text)
-IsAnsweredAs asked.save old text new = (new ≡ old) × IsSaved old.live.fed.board text
+-- what a request is answered, and what it leaves: but for `save` what is kept stays
+abbrev pub IsAnsweredAs : Asked → KeptSession → List ℕ → KeptSession → Type 0
+IsAnsweredAs (asked.more groups) old text new = (new.saved ≡ old.saved) × IsMore old.session new.session text
+IsAnsweredAs asked.state old text new = (new ≡ old) × IsState old.session text
+IsAnsweredAs asked.changes old text new = (new.saved ≡ old.saved) × HasTold old.session new.session × IsChanges old.session text
+IsAnsweredAs asked.told old text new = (new.saved ≡ old.saved) × HasTold old.session new.session × IsToldCount old.session text
+IsAnsweredAs (asked.rows table most from) old text new = (new ≡ old) × IsSomeAnd (first_plan old.session.live) (IsRows old.session.live.fed.board.rows table most from text)
+IsAnsweredAs (asked.row table key) old text new = (new ≡ old) × IsSomeAnd (first_plan old.session.live) (IsRow old.session.live.fed.board.rows table key text)
+IsAnsweredAs asked.counts old text new = (new ≡ old) × IsSomeAnd (first_plan old.session.live) (IsCounts old.session.live.fed.board.rows (length old.session.live.fed.board.streams) text)
+IsAnsweredAs asked.save old text new = (new.session ≡ old.session) × IsSaved old.session.live.fed.board old.saved new.saved text
 IsAnsweredAs asked.last old text new = (new ≡ old) × (text ≡ ok_line nothing_data)
 
 -- want of memory leaves all as it was, but for what `more` has done
-abbrev pub IsLeft : Asked → SessionValue → SessionValue → Type 0
-IsLeft (asked.more groups) old new = (bytes : ℕ) × HasGone bytes old.live new.live
+abbrev pub IsLeft : Asked → KeptSession → KeptSession → Type 0
+IsLeft (asked.more groups) old new = (new.saved ≡ old.saved) × ((bytes : ℕ) × HasGone bytes old.session.live new.session.live)
 IsLeft request old new = new ≡ old
 
 -- A request is answered so, or 72; and 124 is the answer to a line that is none.
-abbrev pub IsAnswer : Option Asked → SessionValue → List ℕ → SessionValue → Type 0
+abbrev pub IsAnswer : Option Asked → KeptSession → List ℕ → KeptSession → Type 0
 IsAnswer None old text new = (new ≡ old) × (text ≡ refusal_line 124)
 IsAnswer (Some request) old text new = IsAnsweredAs request old text new ⊎ (IsLeft request old new × (text ≡ refusal_line 72))
 

@@ -23,6 +23,14 @@ pub record SessionValue : Type 0 where
 abbrev pub session_of : LiveValue → List Seat → SessionValue
 session_of live seats = record { live = live; seats = seats }
 
+-- a session, and the checkpoints that were kept of it, the last first, where they are known
+pub record KeptSession : Type 0 where
+  pub session : SessionValue
+  pub saved : Option (List (List ℕ))
+
+abbrev pub kept_session : SessionValue → Option (List (List ℕ)) → KeptSession
+kept_session session saved = record { session = session; saved = saved }
+
 -- the plan of the first stream, which has the tables of all
 abbrev pub first_plan : LiveValue → Option PlanValue
 first_plan live = option_map (λ (feed : FeedValue). feed.plan) (slice_get live.fed.feeds 0)

@@ -9,7 +9,7 @@ use Rattle.live_requests.specs.Requests.{Asked, request_in}
 use Rattle.live_requests.specs.declared.lines.Found.{Found}
 use Rattle.live_requests.specs.declared.lines.Found.TheVariants.{Line, Long, End}
 use Rattle.live_session.specs.Answered.{IsAnswer}
-use Rattle.live_session.specs.Sessions.{SessionValue}
+use Rattle.live_session.specs.Sessions.{KeptSession}
 use Rattle.live_session.specs.declared.serve.ServeFault.{ServeFault}
 use Rattle.live_session.specs.declared.serve.ServeFault.TheVariants as serve
 
@@ -19,14 +19,14 @@ number_of_serve serve.CannotRead = 131
 number_of_serve serve.CannotWrite = 132
 number_of_serve serve.Memory = 72
 
--- what is left of the input, as far as it is known; the session; and what the output has taken
+-- what is left of the input, as far as it is known; the session, with what was kept of it; and what the output has taken
 pub record Stand : Type 0 where
   pub input : Option (List ℕ)
-  pub session : SessionValue
+  pub kept : KeptSession
   pub output : Written
 
-abbrev pub stand_of : Option (List ℕ) → SessionValue → Written → Stand
-stand_of input session output = record { input = input; session = session; output = output }
+abbrev pub stand_of : Option (List ℕ) → KeptSession → Written → Stand
+stand_of input kept output = record { input = input; kept = kept; output = output }
 
 -- what a line that was found asks for: a longer one nothing
 abbrev pub asked_by : Found → List ℕ → Option Asked
@@ -52,10 +52,10 @@ IsNext old new (Some asked) = IsLineTaken old new asked
 pub record IsTurn (asked : Option Asked) (old new : Stand) : Type 0 where
   pub taken : IsLineTaken old.input new.input asked
   pub text : List ℕ
-  pub answer : IsAnswer asked old.session text new.session
+  pub answer : IsAnswer asked old.kept text new.kept
   pub written : IsWritten old.output new.output text
-  pub live : IsLive new.session.live
-  pub fed : IsFedBoard new.session.live.fed.feeds new.session.live.fed.board
+  pub live : IsLive new.kept.session.live
+  pub fed : IsFedBoard new.kept.session.live.fed.feeds new.kept.session.live.fed.board
 
 -- these requests are taken off the input one after another, and each is answered before the next is taken
 abbrev pub AreTurns : List (Option Asked) → Stand → Stand → Type 0
@@ -70,7 +70,7 @@ is_last asked = false
 -- the input has ended, and nothing else has happened
 pub record HasEnded (old new : Stand) : Type 0 where
   pub at_end : IsNext old.input new.input None
-  pub session : new.session ≡ old.session
+  pub kept : new.kept ≡ old.kept
   pub output : new.output ≡ old.output
 
 -- the input has ended, or `end` was asked and answered
@@ -92,9 +92,9 @@ pub record IsServed (old new : Stand) : Type 0 where
 -- Why a turn isn't taken, and what it leaves: the next line can't be read, and nothing else has happened; or a line was taken,
 -- and a beginning of its answer was written. None wants memory.
 abbrev pub BreaksTurn : ServeFault → Stand → Stand → Type 0
-BreaksTurn serve.CannotRead old new = (new.session ≡ old.session) × (new.output ≡ old.output)
+BreaksTurn serve.CannotRead old new = (new.kept ≡ old.kept) × (new.output ≡ old.output)
 BreaksTurn serve.CannotWrite old new =
-    (asked : Option Asked) × IsLineTaken old.input new.input asked × (text : List ℕ) × IsAnswer asked old.session text new.session × BreaksOff old.output new.output text
+    (asked : Option Asked) × IsLineTaken old.input new.input asked × (text : List ℕ) × IsAnswer asked old.kept text new.kept × BreaksOff old.output new.output text
 BreaksTurn serve.Memory old new = ⊥
 
 -- requests were answered in order, up to a turn that wasn't taken

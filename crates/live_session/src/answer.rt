@@ -6,7 +6,7 @@ ghost use Rattle.board_laws.specs.FedBoards.{IsFedBoard};
 ghost use Rattle.live_core.specs.Live.{IsLive};
 ghost use Rattle.live_requests.specs.Requests.{request_value};
 ghost use Rattle.live_session.specs.Answered.{Answers, HasGone, IsAnswer, IsAnsweredAs, IsLeft, IsMore};
-ghost use Rattle.live_session.specs.Sessions.{session_of};
+ghost use Rattle.live_session.specs.Sessions.{kept_session, session_of};
 
 use crate::applying::note;
 use crate::arrivals::Arrivals;
@@ -39,6 +39,7 @@ fn go_on<'h, R: Threads + Wait + Sync, A: Arrivals<'h>, O: Out>(
     requires { length seats.old ≡ length live.old.fed.feeds }
     ensures answer { Answers (IsMore (session_of live.old seats.old) (session_of live.new seats.new)) result (O.written out.old) (O.written out.new) }
     ensures gone { (bytes : ℕ) × HasGone bytes live.old live.new }
+    ensures saved { A.saved arrivals.new ≡ A.saved arrivals.old }
     ensures seats { length seats.new ≡ length live.new.fed.feeds }
 {
     live.fed().is_fed();
@@ -62,8 +63,8 @@ fn answer_to<'h, R: Threads + Wait + Sync, A: Arrivals<'h>, O: Out>(
     out: &mut O,
 ) -> Result<Result<(), OutFailed>, AllocError>
     requires { length seats.old ≡ length live.old.fed.feeds }
-    ensures answer { Answers (λ text. IsAnsweredAs (request_value request.entry) (session_of live.old seats.old) text (session_of live.new seats.new)) result (O.written out.old) (O.written out.new) }
-    ensures left { OnErr result (IsLeft (request_value request.entry) (session_of live.old seats.old) (session_of live.new seats.new)) }
+    ensures answer { Answers (λ text. IsAnsweredAs (request_value request.entry) (kept_session (session_of live.old seats.old) (A.saved arrivals.old)) text (kept_session (session_of live.new seats.new) (A.saved arrivals.new))) result (O.written out.old) (O.written out.new) }
+    ensures left { OnErr result (IsLeft (request_value request.entry) (kept_session (session_of live.old seats.old) (A.saved arrivals.old)) (kept_session (session_of live.new seats.new) (A.saved arrivals.new))) }
     ensures seats { length seats.new ≡ length live.new.fed.feeds }
 {
     match request {
@@ -100,7 +101,7 @@ fn answer_or_refuse<'h, R: Threads + Wait + Sync, A: Arrivals<'h>, O: Out>(
     out: &mut O,
 ) -> Result<(), OutFailed>
     requires { length seats.old ≡ length live.old.fed.feeds }
-    ensures answer { (text : List ℕ) × IsAnswer (Some (request_value request.entry)) (session_of live.old seats.old) text (session_of live.new seats.new) × Prints result (O.written out.old) (O.written out.new) text }
+    ensures answer { (text : List ℕ) × IsAnswer (Some (request_value request.entry)) (kept_session (session_of live.old seats.old) (A.saved arrivals.old)) text (kept_session (session_of live.new seats.new) (A.saved arrivals.new)) × Prints result (O.written out.old) (O.written out.new) text }
     ensures seats { length seats.new ≡ length live.new.fed.feeds }
 {
     match answer_to(rt, alloc, threading, live, seats, arrivals, request, out) {
@@ -121,7 +122,7 @@ fn answer_line<'h, R: Threads + Wait + Sync, A: Arrivals<'h>, O: Out>(
     out: &mut O,
 ) -> Result<(), OutFailed>
     requires { length seats.old ≡ length live.old.fed.feeds }
-    ensures answer { (text : List ℕ) × IsAnswer (option_map request_value request.entry) (session_of live.old seats.old) text (session_of live.new seats.new) × Prints result (O.written out.old) (O.written out.new) text }
+    ensures answer { (text : List ℕ) × IsAnswer (option_map request_value request.entry) (kept_session (session_of live.old seats.old) (A.saved arrivals.old)) text (kept_session (session_of live.new seats.new) (A.saved arrivals.new)) × Prints result (O.written out.old) (O.written out.new) text }
     ensures seats { length seats.new ≡ length live.new.fed.feeds }
 {
     match request {
@@ -144,7 +145,7 @@ pub(crate) fn answer<'h, R: Threads + Wait + Sync, A: Arrivals<'h>, O: Out>(
     out: &mut O,
 ) -> Result<(), OutFailed>
     requires { length seats.old ≡ length live.old.fed.feeds }
-    ensures answer { (text : List ℕ) × IsAnswer (option_map request_value request.entry) (session_of live.old seats.old) text (session_of live.new seats.new) × Prints result (O.written out.old) (O.written out.new) text }
+    ensures answer { (text : List ℕ) × IsAnswer (option_map request_value request.entry) (kept_session (session_of live.old seats.old) (A.saved arrivals.old)) text (kept_session (session_of live.new seats.new) (A.saved arrivals.new)) × Prints result (O.written out.old) (O.written out.new) text }
     ensures seats { length seats.new ≡ length live.new.fed.feeds }
     // The board that is told of is lawful, and shows its sources.
     ensures live { IsLive live.new }

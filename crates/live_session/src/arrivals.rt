@@ -1,6 +1,7 @@
 //! The bytes that come to feeds, and the file that takes a checkpoint.
 
-ghost use Rattle.std.specs.Prelude.{◌≡◌};
+ghost use Rattle.std.specs.Prelude.{◌≡◌, ℕ, List, None, Option};
+ghost use Rattle.live_session.specs.Saves.{saved_then};
 ghost use Rattle.live_session.specs.Stops.{number_of_arrival, number_of_save};
 
 use std::sync::Wait;
@@ -67,13 +68,18 @@ pub struct Arrived<'h> {
 
 /// What a session asks of the world. Nothing is known of what it gives.
 pub trait Arrivals<'h> {
+    // The checkpoints that were kept, the last first, where they are known.
+    ghost saved: { Self → Option (List (List ℕ)) } = { λ _. None };
+
     /// The bytes of the feed of stream `s` behind its first `taken` ones, as far as they have come and can be taken: up to
     /// the last message behind which no transaction is open. How many more have come is said beside them, and they are
     /// given once the rest of their transaction has come: a piece that is lent lives as long as the session. Bytes at fault
     /// are given as they have come.
     /// What was given counts as used; what wasn't, after an error, is given again.
-    fn behind<R: Wait>(&mut self, rt: &R, s: u8, taken: u64) -> Result<Arrived<'h>, ArrivalFault>;
+    fn behind<R: Wait>(&mut self, rt: &R, s: u8, taken: u64) -> Result<Arrived<'h>, ArrivalFault>
+        ensures { saved self.new ≡ saved self.old };
 
     /// Puts a checkpoint in the place of the one before it.
-    fn save(&mut self, checkpoint: &[u8]) -> Result<(), SaveFault>;
+    fn save(&mut self, checkpoint: &[u8]) -> Result<(), SaveFault>
+        ensures { saved self.new ≡ saved_then checkpoint.now result (saved self.old) };
 }

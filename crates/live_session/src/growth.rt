@@ -20,7 +20,9 @@ fn next_arrived<'h, R: Wait, A: Arrivals<'h>>(
     arrivals: &mut A,
     s: u8,
     taken: u64,
-) -> Result<Arrived<'h>, ArrivalFault> {
+) -> Result<Arrived<'h>, ArrivalFault>
+    ensures { A.saved arrivals.new ≡ A.saved arrivals.old }
+{
     match seat.kept {
         Some(arrived) => {
             seat.kept = None;
@@ -76,6 +78,7 @@ fn grow_one<'h, R: Wait, A: Arrivals<'h>>(
     ensures come { HaveCome result live.old live.new }
     // A feed that doesn't grow any more is left as it is.
     ensures grown { HasGrown (option_map_or lasts seat.old.stopped false) s seat.old seat.new live.old live.new }
+    ensures saved { A.saved arrivals.new ≡ A.saved arrivals.old }
 {
     if seat.is_closed() {
         return 0;
@@ -107,6 +110,7 @@ pub(crate) fn growth<'h, R: Wait, A: Arrivals<'h>>(
     requires count { length seats.old ≡ length live.old.fed.feeds }
     ensures come { HaveCome result live.old live.new }
     ensures seats { length seats.new ≡ length seats.old }
+    ensures saved { A.saved arrivals.new ≡ A.saved arrivals.old }
 {
     let mut bytes = 0;
     for s in 0..seats.len() {

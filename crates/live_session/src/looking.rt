@@ -1,6 +1,6 @@
 //! Answers that tell of a board, and leave it as it is.
 
-ghost use Rattle.std.specs.Prelude.{◌≡◌, ◌<◌, Some, length, option_map};
+ghost use Rattle.std.specs.Prelude.{◌≡◌, ◌<◌, OnErr, Some, length, option_map};
 ghost use Rattle.std.specs.Arc.{arc_value};
 ghost use Rattle.live_session.specs.Answered.{Answers, IsCounts, IsKeyed, IsRow, IsRows, IsSaved, IsState, kept_line, page_line, refusal_line, row_line};
 ghost use Rattle.live_session.specs.Sessions.{first_plan, session_of};
@@ -169,7 +169,8 @@ pub(crate) fn tell_saved<'h, A: Arrivals<'h>, O: Out>(
     arrivals: &mut A,
     out: &mut O,
 ) -> Result<Result<(), OutFailed>, AllocError>
-    ensures { Answers (IsSaved live.now.fed.board) result (O.written out.old) (O.written out.new) }
+    ensures answer { Answers (IsSaved live.now.fed.board (A.saved arrivals.old) (A.saved arrivals.new)) result (O.written out.old) (O.written out.new) }
+    ensures left { OnErr result (A.saved arrivals.new ≡ A.saved arrivals.old) }
 {
     let checkpoint = live.checkpoint(alloc)?;
     let kept = arrivals.save(&checkpoint);

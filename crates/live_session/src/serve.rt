@@ -2,7 +2,7 @@
 
 ghost use Rattle.std.specs.Prelude.{◌≡◌, IfOk, IfErr, OnOk, length, not, option_map};
 ghost use Rattle.live_requests.specs.Requests.{request_value};
-ghost use Rattle.live_session.specs.Sessions.{session_of};
+ghost use Rattle.live_session.specs.Sessions.{kept_session, session_of};
 ghost use Rattle.live_session.specs.declared.serve.ServeFault.TheVariants.{CannotRead};
 ghost use Rattle.live_session.specs.Turns.{BreaksTurn, IsBroken, IsNext, IsServed, IsTurned, is_last, number_of_serve, stand_of};
 
@@ -78,8 +78,8 @@ fn turn<'h, R: Threads + Wait + Sync, A: Arrivals<'h>, I: Read, O: Out>(
     out: &mut O,
 ) -> Result<bool, ServeFault>
     requires { length seats.old ≡ length live.old.fed.feeds }
-    ensures turned { IfOk result (IsTurned (stand_of (I.remaining input.old) (session_of live.old seats.old) (O.written out.old)) (stand_of (I.remaining input.new) (session_of live.new seats.new) (O.written out.new))) }
-    ensures broken { IfErr result (λ fault. BreaksTurn fault (stand_of (I.remaining input.old) (session_of live.old seats.old) (O.written out.old)) (stand_of (I.remaining input.new) (session_of live.new seats.new) (O.written out.new))) }
+    ensures turned { IfOk result (IsTurned (stand_of (I.remaining input.old) (kept_session (session_of live.old seats.old) (A.saved arrivals.old)) (O.written out.old)) (stand_of (I.remaining input.new) (kept_session (session_of live.new seats.new) (A.saved arrivals.new)) (O.written out.new))) }
+    ensures broken { IfErr result (λ fault. BreaksTurn fault (stand_of (I.remaining input.old) (kept_session (session_of live.old seats.old) (A.saved arrivals.old)) (O.written out.old)) (stand_of (I.remaining input.new) (kept_session (session_of live.new seats.new) (A.saved arrivals.new)) (O.written out.new))) }
     ensures seats { length seats.new ≡ length live.new.fed.feeds }
 {
     let Some(request) = next_request(lines, input)? else {
@@ -103,8 +103,8 @@ pub(crate) fn serve_all<'h, R: Threads + Wait + Sync, A: Arrivals<'h>, I: Read, 
     out: &mut O,
 ) -> Result<(), ServeFault>
     requires { length seats.old ≡ length live.old.fed.feeds }
-    ensures served { OnOk result (IsServed (stand_of (I.remaining input.old) (session_of live.old seats.old) (O.written out.old)) (stand_of (I.remaining input.new) (session_of live.new seats.new) (O.written out.new))) }
-    ensures broken { IfErr result (λ fault. IsBroken fault (stand_of (I.remaining input.old) (session_of live.old seats.old) (O.written out.old)) (stand_of (I.remaining input.new) (session_of live.new seats.new) (O.written out.new))) }
+    ensures served { OnOk result (IsServed (stand_of (I.remaining input.old) (kept_session (session_of live.old seats.old) (A.saved arrivals.old)) (O.written out.old)) (stand_of (I.remaining input.new) (kept_session (session_of live.new seats.new) (A.saved arrivals.new)) (O.written out.new))) }
+    ensures broken { IfErr result (λ fault. IsBroken fault (stand_of (I.remaining input.old) (kept_session (session_of live.old seats.old) (A.saved arrivals.old)) (O.written out.old)) (stand_of (I.remaining input.new) (kept_session (session_of live.new seats.new) (A.saved arrivals.new)) (O.written out.new))) }
     ensures seats { length seats.new ≡ length live.new.fed.feeds }
 {
     let Ok(mut lines) = Lines::new(alloc) else {

@@ -4,7 +4,7 @@ ghost use Rattle.std.specs.Prelude.{◌≡◌, IfErr, IfOk, OnOk, length, map, s
 ghost use Rattle.std.specs.Option.{option_map_or};
 ghost use Rattle.board_laws.specs.FedBoards.{IsFedBoard};
 ghost use Rattle.live_core.specs.Live.{IsLive};
-ghost use Rattle.live_session.specs.Sessions.{AreFresh, tail_at};
+ghost use Rattle.live_session.specs.Sessions.{AreFresh, kept_session, tail_at};
 ghost use Rattle.live_session.specs.Stops.{fresh_seat};
 ghost use Rattle.live_session.specs.Turns.{IsBroken, IsServed, stand_of};
 
@@ -105,9 +105,9 @@ impl<'h> Session<'h> {
         out: &mut O,
     ) -> Result<(), ServeFault>
         // Each line of the input was answered, in order.
-        ensures served { OnOk result (IsServed (stand_of (I.remaining input.old) self.old (O.written out.old)) (stand_of (I.remaining input.new) self.new (O.written out.new))) }
+        ensures served { OnOk result (IsServed (stand_of (I.remaining input.old) (kept_session self.old (A.saved arrivals.old)) (O.written out.old)) (stand_of (I.remaining input.new) (kept_session self.new (A.saved arrivals.new)) (O.written out.new))) }
         // Else they were, up to one that couldn't be read, or whose answer couldn't be written.
-        ensures broken { IfErr result (λ fault. IsBroken fault (stand_of (I.remaining input.old) self.old (O.written out.old)) (stand_of (I.remaining input.new) self.new (O.written out.new))) }
+        ensures broken { IfErr result (λ fault. IsBroken fault (stand_of (I.remaining input.old) (kept_session self.old (A.saved arrivals.old)) (O.written out.old)) (stand_of (I.remaining input.new) (kept_session self.new (A.saved arrivals.new)) (O.written out.new))) }
         // However it ends, the board shows its sources, and is lawful.
         ensures live { IsLive self.new.live }
         ensures fed { IsFedBoard self.new.live.fed.feeds self.new.live.fed.board }

@@ -12,8 +12,8 @@ use Rattle.live_core.specs.Live.{LiveValue}
 use Rattle.live_opening.specs.Opened.{IsOpened, IsUnopened}
 use Rattle.live_opening.specs.declared.unopened.Unopened.{Unopened}
 use Rattle.live_opening.specs.declared.unopened.Unopened.TheVariants.{Workflow, FeedCount, Feed, Checkpoint, Stream}
-use Rattle.live_session.specs.Sessions.{AreFresh, SessionValue}
-use Rattle.live_session.specs.Turns.{IsBroken, IsServed, number_of_serve, stand_of}
+use Rattle.live_session.specs.Sessions.{AreFresh, SessionValue, kept_session}
+use Rattle.live_session.specs.Turns.{IsBroken, IsServed, Stand, number_of_serve, stand_of}
 use Rattle.live_session.specs.declared.serve.ServeFault.{ServeFault}
 use Rattle.live_session.specs.declared.serve.ServeFault.TheVariants as serve
 use Rattle.vrepl_live.specs.declared.living.LiveInputs.{LiveInputs}
@@ -59,15 +59,27 @@ broken_line fault = line_of (number_of_serve fault) (broken_details fault)
 
 -- ---- the session
 
--- what is left of the input, as far as it is known, and what the two writers have taken: that of the answers, and that of a
--- refusal's line
-pub record Outside : Type 0 where
+-- what is left of the input, and the checkpoints that were kept, the last first, both as far as they are known; and what the
+-- writer of the answers has taken
+pub record Talk : Type 0 where
   pub input : Option (List ℕ)
+  pub saved : Option (List (List ℕ))
   pub answers : Written
+
+abbrev pub talk_of : Option (List ℕ) → Option (List (List ℕ)) → Written → Talk
+talk_of input saved answers = record { input = input; saved = saved; answers = answers }
+
+-- the same of a session
+abbrev pub stand_in : SessionValue → Talk → Stand
+stand_in session talk = stand_of talk.input (kept_session session talk.saved) talk.answers
+
+-- that, and what the writer of a refusal's line has taken
+pub record Outside : Type 0 where
+  pub talk : Talk
   pub refusals : Written
 
-abbrev pub outside : Option (List ℕ) → Written → Written → Outside
-outside input answers refusals = record { input = input; answers = answers; refusals = refusals }
+abbrev pub outside : Talk → Written → Outside
+outside talk refusals = record { talk = talk; refusals = refusals }
 
 -- A session over this board begins, and it is known how many bytes of its feeds had come.
 pub record IsStart (live : LiveValue) (come : List (List ℕ)) (start : SessionValue) : Type 0 where
@@ -75,37 +87,36 @@ pub record IsStart (live : LiveValue) (come : List (List ℕ)) (start : SessionV
   pub fresh : AreFresh come live start.seats
 
 -- From this board a session was served: its requests were answered in order, until `end` or the input's end.
-pub record HasServed (live : LiveValue) (come : List (List ℕ)) (input : Option (List ℕ)) (written : Written) (input_left : Option (List ℕ)) (written_then : Written) : Type 0 where
+pub record HasServed (live : LiveValue) (come : List (List ℕ)) (old new : Talk) : Type 0 where
   pub start : SessionValue
   pub begins : IsStart live come start
   pub end : SessionValue
-  pub served : IsServed (stand_of input start written) (stand_of input_left end written_then)
+  pub served : IsServed (stand_in start old) (stand_in end new)
 
 -- From this board one was broken off: its requests were answered in order, up to one that couldn't be read, or whose answer
 -- couldn't be written.
-pub record HasStopped (live : LiveValue) (come : List (List ℕ)) (input : Option (List ℕ)) (written : Written) (input_left : Option (List ℕ)) (written_then : Written) (fault : ServeFault) : Type 0 where
+pub record HasStopped (live : LiveValue) (come : List (List ℕ)) (old new : Talk) (fault : ServeFault) : Type 0 where
   pub start : SessionValue
   pub begins : IsStart live come start
   pub end : SessionValue
-  pub broken : IsBroken fault (stand_of input start written) (stand_of input_left end written_then)
+  pub broken : IsBroken fault (stand_in start old) (stand_in end new)
 
--- Or there was no memory for it, and nothing was read or answered.
-abbrev pub HasBroken : LiveValue → List (List ℕ) → Option (List ℕ) → Written → Option (List ℕ) → Written → ServeFault → Type 0
-HasBroken live come input written input_left written_then serve.Memory = (input_left ≡ input) × (written_then ≡ written)
-HasBroken live come input written input_left written_then fault = HasStopped live come input written input_left written_then fault
+-- Or there was no memory for it, and nothing was read, answered or kept.
+abbrev pub HasBroken : LiveValue → List (List ℕ) → Talk → Talk → ServeFault → Type 0
+HasBroken live come old new serve.Memory = new ≡ old
+HasBroken live come old new fault = HasStopped live come old new fault
 
 -- from the board that the inputs make a session was served
 pub record HasLived (inputs : LiveInputs) (old new : Outside) : Type 0 where
   pub live : LiveValue
   pub opened : IsOpenedBy inputs live
-  pub served : HasServed live (come_of inputs) old.input old.answers new.input new.answers
+  pub served : HasServed live (come_of inputs) old.talk new.talk
 
--- There is no board to start from, and the line says why. Nothing was read, and nothing answered.
+-- There is no board to start from, and the line says why. Nothing was read, answered or kept.
 pub record HasNotBegun (inputs : LiveInputs) (old new : Outside) : Type 0 where
   pub unopened : Unopened
   pub why : IsUnopenedBy inputs unopened
-  pub input : new.input ≡ old.input
-  pub answers : new.answers ≡ old.answers
+  pub talk : new.talk ≡ old.talk
   pub line : PrintsOrBreaks old.refusals new.refusals (unopened_line unopened)
 
 -- From the board that the inputs make a session was served, and broken off: the line says why.
@@ -113,7 +124,7 @@ pub record HasBrokenOff (inputs : LiveInputs) (old new : Outside) : Type 0 where
   pub live : LiveValue
   pub opened : IsOpenedBy inputs live
   pub fault : ServeFault
-  pub broken : HasBroken live (come_of inputs) old.input old.answers new.input new.answers fault
+  pub broken : HasBroken live (come_of inputs) old.talk new.talk fault
   pub line : PrintsOrBreaks old.refusals new.refusals (broken_line fault)
 
 abbrev pub HasRefused : LiveInputs → Outside → Outside → Type 0

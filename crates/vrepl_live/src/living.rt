@@ -1,7 +1,7 @@
 //! The subcommand `live`.
 
 ghost use Rattle.std.specs.Prelude.{◌≡◌, ◌≤◌, IfOk, IfErr, OnOk, map};
-ghost use Rattle.vrepl_live.specs.Living.{HasBroken, HasServed, IsOpenedBy, IsUnopenedBy, LiveEnds, outside};
+ghost use Rattle.vrepl_live.specs.Living.{HasBroken, HasServed, IsOpenedBy, IsUnopenedBy, LiveEnds, outside, talk_of};
 
 use crate::refusing::{as_unfollowed, fault_refusal};
 use live_core::Live;
@@ -53,8 +53,8 @@ fn serve_over<'h, R: Threads + Wait + Sync, A: Arrivals<'h>, I: Read, W: Out>(
     input: &mut I,
     out: &mut W,
 ) -> Result<(), ServeFault>
-    ensures served { OnOk result (HasServed live.entry (map (λ bytes. bytes.items) come.now) (I.remaining input.old) (W.written out.old) (I.remaining input.new) (W.written out.new)) }
-    ensures broken { IfErr result (HasBroken live.entry (map (λ bytes. bytes.items) come.now) (I.remaining input.old) (W.written out.old) (I.remaining input.new) (W.written out.new)) }
+    ensures served { OnOk result (HasServed live.entry (map (λ bytes. bytes.items) come.now) (talk_of (I.remaining input.old) (A.saved arrivals.old) (W.written out.old)) (talk_of (I.remaining input.new) (A.saved arrivals.new) (W.written out.new))) }
+    ensures broken { IfErr result (HasBroken live.entry (map (λ bytes. bytes.items) come.now) (talk_of (I.remaining input.old) (A.saved arrivals.old) (W.written out.old)) (talk_of (I.remaining input.new) (A.saved arrivals.new) (W.written out.new))) }
 {
     let Ok(mut session) = Session::new(alloc, live, come) else {
         return Err(ServeFault::Memory);
@@ -78,7 +78,7 @@ pub fn live<'h, R: Threads + Wait + Sync, A: Arrivals<'h>, I: Read, W: Out, E: O
 ) -> u8
     ensures status { result ≤ 1 }
     // With status 0 each line of the input was answered, in order, from the board that the inputs make on.
-    ensures ends { LiveEnds inputs.now result (outside (I.remaining input.old) (W.written out.old) (E.written err.old)) (outside (I.remaining input.new) (W.written out.new) (E.written err.new)) }
+    ensures ends { LiveEnds inputs.now result (outside (talk_of (I.remaining input.old) (A.saved arrivals.old) (W.written out.old)) (E.written err.old)) (outside (talk_of (I.remaining input.new) (A.saved arrivals.new) (W.written out.new)) (E.written err.new)) }
     ensures quiet { result ≡ 0 → err.new ≡ err.old }
 {
     let board = match open_board(alloc, inputs) {

@@ -7,5 +7,6 @@ abbrev pub invariant-loop-s : goal.invariant-loop-s
 invariant-loop-s g l = record {
   come : HaveCome l.bytes l.fn.live l.live;
   count : length l.seats ≡ length l.fn.seats;
+  saved : g.A.Arrivals.saved l.arrivals ≡ g.A.Arrivals.saved l.fn.arrivals;
   few : l.bytes ≤ l.s * 2 ^ 32;
 }
