@@ -1,10 +1,10 @@
 -- What each stream answered is noted, the last answer first.
-use Rattle.std.proofs.Common.{◌≡◌, ℕ, zero, suc, ◌≤◌, Bool, inl, inr, List, [], ◌∷◌, ◌++◌, length, take, length-append, Result, Some, slice_get, set, refl, sym, ap, ◌∙◌, arith}
+use Rattle.std.proofs.Common.{◌≡◌, ℕ, zero, suc, ◌≤◌, Bool, inl, inr, List, [], ◌∷◌, ◌++◌, length, map, take, get_or, length-append, Result, Some, slice_get, set, refl, sym, ap, ◌∙◌, arith}
 use Rattle.std.proofs.Math.Nat.{eq-or-lt_of_le}
 use Rattle.std.proofs.lemmas.Option.{same_Some}
 use Rattle.list_laws.proofs.Places.{slice_get-set_same, slice_get-set_other}
 use Rattle.board_laws.specs.declared.step_refusal.StepRefusal.{StepRefusal}
-use Rattle.live_session.specs.Answered.{noted}
+use Rattle.live_session.specs.Answered.{noted, unstepped}
 use Rattle.live_session.specs.declared.seat.Seat.{Seat}
 
 -- the last of the first n + 1, and those before it
@@ -35,3 +35,9 @@ noted-one s answers seats x before after there place step behind i answer seat w
           ap (λ (one : Seat). one.step) (sym seat_is) ∙ (step ∙ ap noted answer_is)
       | inr later ↦ behind i answer seat (omega (arith, later)) at (sym (slice_get-set_other seats s after i (λ e. omega (arith, e, later))) ∙ found)
     ]
+
+-- a seat that is as it was but for its step leaves all as they were but for their steps
+pub stepped-set : (seats : List Seat) (s : ℕ) (item after : Seat) → item ≡ get_or seats s item → unstepped after ≡ unstepped item → map unstepped (set seats s after) ≡ map unstepped seats
+stepped-set [] s item after is same = refl
+stepped-set (x ∷ xs) zero item after is same = ap (λ (seat : Seat). seat ∷ map unstepped xs) (same ∙ ap unstepped is)
+stepped-set (x ∷ xs) (suc s) item after is same = ap (λ (rest : List Seat). unstepped x ∷ rest) (stepped-set xs s item after is same)

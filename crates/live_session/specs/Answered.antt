@@ -1,5 +1,6 @@
 -- What each request is answered, and what it leaves (this profile).
-use Rattle.std.specs.Prelude.{◌≡◌, ◌⊎◌, ℕ, List, [], length, Bool, Option, None, Some, MatchOption, IsSomeAnd, Result, Ok, Err, slice_get}
+use Rattle.std.specs.Prelude.{◌≡◌, ◌⊎◌, ℕ, ◌-◌, ◌^◌, List, [], length, map, Bool, Option, None, Some, MatchOption, IsSomeAnd, Result, Ok, Err, slice_get}
+use Rattle.std.specs.Option.{unwrap_or}
 use Rattle.filter_rule.specs.PlanValue.{PlanValue, table_of_name}
 use Rattle.pk_copy.specs.KeyOrder.{key_cmp}
 use Rattle.pk_copy.specs.KeyValue.{KeyValue}
@@ -12,12 +13,13 @@ use Rattle.change_laws.specs.Changes.{LeadOn, changes_in}
 use Rattle.change_laws.specs.Since.{HasMoved}
 use Rattle.change_laws.specs.declared.changed_keys.ChangedKeys.{ChangedKeys}
 use Rattle.live_core.specs.Live.{LiveValue, AreCounted, HaveEndedAs, IsToldExactly, told_rows}
+use Rattle.worker_rounds.specs.Rounds.{ApplyUpTo, AreAnswers}
 use Rattle.live_json.specs.Answers.{StreamValue, TableCounts, ok_line, refused_line, more_data, state_data, changes_data, told_data, page_data, standing_data, counts_data, saved_data, nothing_data}
 use Rattle.live_requests.specs.Named.{IsKeyText}
 use Rattle.live_requests.specs.Requests as asked
 use Rattle.live_requests.specs.Requests.{Asked}
 use Rattle.live_session.specs.Counts.{AreAllCounts}
-use Rattle.live_session.specs.Growths.{HaveCome}
+use Rattle.live_session.specs.Growths.{HaveCome, HaveGrown}
 use Rattle.live_session.specs.Pages.{page_of}
 use Rattle.live_session.specs.Saves.{saved_then}
 use Rattle.live_session.specs.Sessions.{KeptSession, SessionValue, AreTold, first_plan}
@@ -40,22 +42,37 @@ pub record AreNoted (answers : List (Result Bool StepRefusal)) (seats : List Sea
   pub count : length seats ≡ length answers
   pub each : (s : ℕ) (answer : Result Bool StepRefusal) (seat : Seat) → slice_get answers s ≡ Some answer → slice_get seats s ≡ Some seat → seat.step ≡ noted answer
 
--- The feeds have grown by so many bytes, and then the streams have taken a list of steps that read groups and apply them.
--- Nothing was told.
-pub record HasGone (bytes : ℕ) (old new : LiveValue) : Type 0 where
+-- nothing but the last steps has changed in the seats
+abbrev pub unstepped : Seat → Seat
+unstepped seat = record seat { step = None }
+
+abbrev pub AreStepped : List Seat → List Seat → Type 0
+AreStepped befores afters = map unstepped afters ≡ map unstepped befores
+
+-- up to how many groups each stream applies: where none are said, more than any feed has
+abbrev pub most_asked : Option ℕ → ℕ
+most_asked groups = unwrap_or groups (2 ^ 32 - 1)
+
+-- The feeds have grown by so many bytes, and then the streams have taken a list of steps that read groups and apply them, up
+-- to so many groups each. Nothing was told.
+pub record HasGone (most bytes : ℕ) (old new : LiveValue) : Type 0 where
   pub between : LiveValue
   pub come : HaveCome bytes old between
   pub feeds : new.fed.feeds ≡ between.fed.feeds
   pub known : new.bytes ≡ between.bytes
   pub told : new.told ≡ between.told
   pub moved : HasMoved between.fed.feeds between.fed.board new.fed.board
+  pub up_to : ApplyUpTo most between.fed.board new.fed.board
 
--- The streams have gone on, each up to its feed's end or a refusal, which is noted, or as far as was asked. Told are how many
--- bytes and changes there are, and where the streams stand.
-pub record IsMore (old new : SessionValue) (text : List ℕ) : Type 0 where
+-- The feeds have grown, each by what its seat says, and each stream has gone on: it has applied all groups of its feed, or so
+-- many more, or was stopped by the refusal that is noted. Told are how many bytes and changes there are, and where the streams
+-- stand.
+pub record IsMore (most : ℕ) (old new : SessionValue) (text : List ℕ) : Type 0 where
   pub bytes : ℕ
-  pub gone : HasGone bytes old.live new.live
+  pub gone : HasGone most bytes old.live new.live
+  pub grown : HaveGrown old.seats new.seats old.live new.live
   pub answers : List (Result Bool StepRefusal)
+  pub answered : AreAnswers most gone.between.fed.feeds gone.between.fed.board answers new.live.fed.board
   pub ended : HaveEndedAs answers new.live.fed.feeds new.live.fed.board
   pub noted : AreNoted answers new.seats
   pub changes : ℕ
@@ -143,7 +160,7 @@ pub record IsSaved (board : Meaning) (old new : Option (List (List ℕ))) (text 
 
 -- what a request is answered, and what it leaves: but for `save` what is kept stays
 abbrev pub IsAnsweredAs : Asked → KeptSession → List ℕ → KeptSession → Type 0
-IsAnsweredAs (asked.more groups) old text new = (new.saved ≡ old.saved) × IsMore old.session new.session text
+IsAnsweredAs (asked.more groups) old text new = (new.saved ≡ old.saved) × IsMore (most_asked groups) old.session new.session text
 IsAnsweredAs asked.state old text new = (new ≡ old) × IsState old.session text
 IsAnsweredAs asked.changes old text new = (new.saved ≡ old.saved) × HasTold old.session new.session × IsChanges old.session text
 IsAnsweredAs asked.told old text new = (new.saved ≡ old.saved) × HasTold old.session new.session × IsToldCount old.session text
@@ -155,7 +172,7 @@ IsAnsweredAs asked.last old text new = (new ≡ old) × (text ≡ ok_line nothin
 
 -- want of memory leaves all as it was, but for what `more` has done
 abbrev pub IsLeft : Asked → KeptSession → KeptSession → Type 0
-IsLeft (asked.more groups) old new = (new.saved ≡ old.saved) × ((bytes : ℕ) × HasGone bytes old.session.live new.session.live)
+IsLeft (asked.more groups) old new = (new.saved ≡ old.saved) × ((bytes : ℕ) × HasGone (most_asked groups) bytes old.session.live new.session.live)
 IsLeft request old new = new ≡ old
 
 -- A request is answered so, or 72; and 124 is the answer to a line that is none.

@@ -37,8 +37,8 @@ fn go_on<'h, R: Threads + Wait + Sync, A: Arrivals<'h>, O: Out>(
     out: &mut O,
 ) -> Result<Result<(), OutFailed>, AllocError>
     requires { length seats.old ≡ length live.old.fed.feeds }
-    ensures answer { Answers (IsMore (session_of live.old seats.old) (session_of live.new seats.new)) result (O.written out.old) (O.written out.new) }
-    ensures gone { (bytes : ℕ) × HasGone bytes live.old live.new }
+    ensures answer { Answers (IsMore most (session_of live.old seats.old) (session_of live.new seats.new)) result (O.written out.old) (O.written out.new) }
+    ensures gone { (bytes : ℕ) × HasGone most bytes live.old live.new }
     ensures saved { A.saved arrivals.new ≡ A.saved arrivals.old }
     ensures seats { length seats.new ≡ length live.new.fed.feeds }
 {

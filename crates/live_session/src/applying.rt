@@ -1,7 +1,7 @@
 //! What is noted of streams that go on.
 
 ghost use Rattle.std.specs.Prelude.{◌≡◌, length};
-ghost use Rattle.live_session.specs.Answered.{AreNoted, noted};
+ghost use Rattle.live_session.specs.Answered.{AreNoted, AreStepped, noted};
 
 use crate::seat::Seat;
 use board_laws::StepRefusal;
@@ -19,7 +19,8 @@ fn note_one(seat: &mut Seat<'_>, answer: Result<bool, StepRefusal>)
 /// What each stream answered is noted in its seat.
 pub(crate) fn note(seats: &mut [Seat<'_>], answers: Vec<Result<bool, StepRefusal>>)
     requires { length answers.items ≡ length seats.old }
-    ensures { AreNoted answers.items seats.new }
+    ensures noted { AreNoted answers.items seats.new }
+    ensures stepped { AreStepped seats.old seats.new }
 {
     let mut answers = answers;
     let mut s = seats.len();

@@ -1,9 +1,7 @@
 //! Feeds that grow by what has come.
 
-ghost use Rattle.std.specs.Prelude.{◌≡◌, ◌<◌, ◌≤◌, false, length};
-ghost use Rattle.std.specs.Option.{option_map_or};
-ghost use Rattle.live_session.specs.Growths.{HasGrown, HaveCome, IsNoted};
-ghost use Rattle.live_session.specs.Stops.{lasts};
+ghost use Rattle.std.specs.Prelude.{◌≡◌, ◌≢◌, ◌<◌, ◌≤◌, ℕ, length};
+ghost use Rattle.live_session.specs.Growths.{HasGrown, HaveCome, HaveGrown, IsNoted, IsStill, is_closed};
 
 use crate::arrivals::{ArrivalFault, Arrivals, Arrived};
 use crate::seat::{Seat, Stopped};
@@ -66,6 +64,7 @@ fn grow_by<'h>(
 }
 
 /// The feed of stream `s` grows by what has come, unless it doesn't grow any more: how many bytes are taken.
+#[tactic(auto, using(crate::proofs::GrowthLaws::come_none, crate::proofs::GrowthLaws::asked_by, crate::proofs::GrowthLaws::asked_in_vain, crate::proofs::GrowthLaws::grown_closed, crate::proofs::GrowthLaws::grown_asked, crate::proofs::GrowthLaws::others_same, crate::proofs::GrowthLaws::others_noted))]
 fn grow_one<'h, R: Wait, A: Arrivals<'h>>(
     rt: &R,
     alloc: Global,
@@ -76,8 +75,9 @@ fn grow_one<'h, R: Wait, A: Arrivals<'h>>(
 ) -> u32
     requires { s < length live.old.fed.feeds }
     ensures come { HaveCome result live.old live.new }
-    // A feed that doesn't grow any more is left as it is.
-    ensures grown { HasGrown (option_map_or lasts seat.old.stopped false) s seat.old seat.new live.old live.new }
+    // A feed that doesn't grow any more is left as it is, and so are the others.
+    ensures grown { HasGrown (is_closed seat.old) s seat.old seat.new live.old live.new }
+    ensures others { (t : ℕ) → t ≢ s → IsStill t live.old live.new }
     ensures saved { A.saved arrivals.new ≡ A.saved arrivals.old }
 {
     if seat.is_closed() {
@@ -111,6 +111,8 @@ pub(crate) fn growth<'h, R: Wait, A: Arrivals<'h>>(
     ensures come { HaveCome result live.old live.new }
     ensures seats { length seats.new ≡ length seats.old }
     ensures saved { A.saved arrivals.new ≡ A.saved arrivals.old }
+    // Why a feed hasn't grown is in its seat.
+    ensures grown { HaveGrown seats.old seats.new live.old live.new }
 {
     let mut bytes = 0;
     for s in 0..seats.len() {
