@@ -32,6 +32,7 @@ pub returns-clause-gone : goal.returns-clause-gone
 returns-clause-gone g c = (c.growth-bytes.result, gone-on c.growth-bytes.ensures.come c.in_ok-answers.ensures.feeds c.in_ok-answers.ensures.bytes c.in_ok-answers.ensures.told c.in_ok-answers.ensures.moved c.in_ok-answers.ensures.up_to)
 
 pub returns-clause-answer : goal.returns-clause-answer
+unfolding gone-on
 returns-clause-answer g c = (
   ok_line (more_data c.growth-bytes.result c.in_ok-changes.changes (map stream_value c.deref.result.now)),
   record {
