@@ -1,6 +1,8 @@
 //! Rounds in threads and without: boards of two and of four streams, streams that are refused, feeds that go on, and want of
 //! memory.
 
+ghost use Rattle.std.specs.Prelude.{◌≤◌, IfOk, length};
+
 use crate::feeds::{
     FOUR, FOURTH_KEY, LOWER, OF_FOUR, SAME_KEY, TENS, TWENTIES, UPPER, WORKFLOW, XS, open_feeds,
 };
@@ -18,11 +20,17 @@ use worker_rounds::run_round;
 const WAYS: [Threading; 2] = [Threading::Alone, Threading::Parallel];
 
 /// The plans of a workflow. Any error is want of memory.
-fn plans_of(alloc: Global, workflow: &[u8]) -> Result<Vec<Arc<Plan>>, AllocError> {
-    match Plan::read_all(alloc, workflow) {
-        Ok(plans) if !plans.is_empty() && plans.len() <= 64 => Ok(plans),
-        _ => Err(AllocError),
+fn plans_of(alloc: Global, workflow: &[u8]) -> Result<Vec<Arc<Plan>>, AllocError>
+    ensures some { IfOk result (λ plans. 1 ≤ length plans.items) }
+    ensures few { IfOk result (λ plans. length plans.items ≤ 64) }
+{
+    let Ok(plans) = Plan::read_all(alloc, workflow) else {
+        return Err(AllocError);
+    };
+    if plans.is_empty() || plans.len() > 64 {
+        return Err(AllocError);
     }
+    Ok(plans)
 }
 
 /// The board of a workflow's streams over their feeds, of which nothing is read.
@@ -48,12 +56,14 @@ fn copied<'h>(
     bytes: &[&'h [u8]],
 ) -> Result<FedBoard<'h>, AllocError> {
     let mut fed = fresh(alloc, workflow, bytes)?;
-    for s in 0..bytes.len() {
+    let mut s: u8 = 0;
+    for _feed in bytes {
         for step in [Step::OpenAt(0), Step::CopyRows(1)] {
-            if fed.take_step(alloc, s as u8, step).is_err() {
+            if fed.take_step(alloc, s, step).is_err() {
                 return Err(AllocError);
             }
         }
+        s = s.saturating_add(1);
     }
     Ok(fed)
 }
@@ -88,11 +98,13 @@ fn answers<R: Threads + Wait + Sync>(
 
 /// Whether each stream has applied so many groups.
 fn have_applied(fed: &FedBoard<'_>, wanted: &[u32]) -> bool {
-    for (s, count) in wanted.iter().enumerate() {
-        match fed.state(s as u8) {
+    let mut s: u8 = 0;
+    for count in wanted {
+        match fed.state(s) {
             Ok(at) if at.applied() == *count => {}
             _ => return false,
         }
+        s = s.saturating_add(1);
     }
     true
 }
