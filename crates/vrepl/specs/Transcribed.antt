@@ -1,5 +1,6 @@
 -- What the words of `transcribe` ask for.
-use Rattle.std.specs.Prelude.{◌≡◌, ℕ, Bor, List, [], ◌∷◌, ◌++◌, map, Option, None, Some, is_some}
+use Rattle.std.specs.Prelude.{◌≡◌, ℕ, List, [], ◌∷◌, ◌++◌, map, Option, None, Some, is_some}
+use Rattle.std.specs.Borrow.{Bor}
 use Rattle.vrepl_main.specs.declared.input.InputName.{InputName}
 use Rattle.vrepl_main.specs.declared.input.InputName.TheVariants.{File}
 use Rattle.vrepl_transcribe.specs.declared.inputs.TranscribeInputs.{TranscribeInputs}
