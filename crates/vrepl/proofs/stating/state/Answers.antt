@@ -1,4 +1,4 @@
-use Rattle.std.proofs.Common.{◌≡◌, ◌∙◌, ap, sym}
+use Rattle.std.proofs.Common.{◌∙◌, ap, sym}
 use Rattle.vrepl.specs.Stated.{status_of_end}
 use Rattle.vrepl.proofs.stating.state.Goals as goal
 

@@ -1,4 +1,4 @@
-use Rattle.std.proofs.Common.{◌≡◌, ◌∙◌, ap, sym}
+use Rattle.std.proofs.Common.{◌∙◌, ap, sym}
 use Rattle.vrepl.specs.Tiled.{status_of_tiles}
 use Rattle.vrepl.proofs.tiling.tile.Goals as goal
 
