@@ -1,7 +1,6 @@
 """A recording by the program's `transcribe`: the connection and the catalogue are read here, and what the log says of the tables by
 the program, of copies of the log's files (`logcopies`)."""
 import os
-import re
 from collections.abc import Iterator
 from contextlib import ExitStack, closing
 from tempfile import TemporaryFile
@@ -26,8 +25,7 @@ from .wire import FIELDS, EventType
 
 LARGE = 2**16
 """The bytes of a message from which on it isn't held in memory."""
-REFUSED = re.compile(r"refused (\d+) file (.*) byte (\d+)")
-OPEN = 156
+OPEN = "refused 156 "
 """How the program refuses logs at whose end an XA transaction is prepared that changes the tables, among others."""
 UNREAD = (Kind.FLOAT32, Kind.FLOAT64, Kind.GEOMETRY)
 WITHOUT = "record without --by-log"
@@ -39,8 +37,8 @@ class ByLog(Recording):
     def __init__(self, wanted: Wanted, opened: ExitStack) -> None:
         super().__init__(wanted, opened)
         self._check_tables()
-        self.groups, self._fault, start = 0, None, self._start
-        """How many transactions of the recorded tables the program has read, and the file and the byte of what it refused."""
+        self.groups, start = 0, self._start
+        """How many transactions of the recorded tables the program has read."""
         self.copies = Copies(wanted.out, start.place, start.begun, self.position, set(start.prepared), self.until)
         opened.callback(self.copies.close)
         self._needs_all = self.position.last and self.position.text() != self.written or len(self.filled) < len(self.tables)
@@ -114,9 +112,9 @@ class ByLog(Recording):
             if kind in (LogEvent.GTID, LogEvent.HEARTBEAT) or not waits and self._is_at_end():
                 yield kind == LogEvent.HEARTBEAT
 
-    def transcribe(self, is_last: bool = True) -> None:
-        """Has the program read the copies, and keeps what they have behind the feed; where it `is_last` also how far they reach. An
-        XA transaction that is prepared is pending."""
+    def transcribe(self, is_last: bool = True, before: Place | None = None) -> None:
+        """Has the program read the copies, or what of them is `before` a place, and keeps what they have behind the feed; where it
+        `is_last` also how far they reach. An XA transaction that is prepared is pending."""
         self.copies.flush()
         self.pending = None
         if self.wanted.append and not self.copies.marks and (self.written == self.position.text() or not self.copies.paths()):
@@ -124,22 +122,20 @@ class ByLog(Recording):
             return
         with TemporaryFile(dir=self._folder) as made:
             try:
-                self._answer(made)
+                self._answer(made, before)
             except Stop as stop:
-                found = REFUSED.search(str(stop))
-                self._fault = (os.path.basename(found[2]), int(found[3])) if found else None
-                if not (found and int(found[1]) == OPEN and self.copies.prepared):
+                if not (OPEN in str(stop) and self.copies.prepared):
                     raise
                 todo = f"XA COMMIT or XA ROLLBACK it (XA RECOVER lists it), and {AGAIN}"
-                self.pending = Prepared("an XA transaction of recorded tables is prepared", f"before {self.copies.end} ({found[0]})", todo)
+                self.pending = Prepared("an XA transaction of recorded tables is prepared", f"before {self.copies.end}", todo)
                 return
             with Held():
                 self._keep(made, is_last)
 
-    def _answer(self, made: BinaryIO) -> None:
-        """What the copies have behind the feed."""
+    def _answer(self, made: BinaryIO, before: Place | None) -> None:
+        """What the copies have behind the feed, before a place where one is said."""
         with ExitStack() as opened:
-            words, files = ["transcribe", "--shard", self.wanted.shard, "--schema", self.tables[0].schema], [self._workflow]
+            words, files = ["transcribe", f"--shard={self.wanted.shard}", f"--schema={self.tables[0].schema}"], [self._workflow]
             if self.feed.is_there:
                 with writing(self.wanted.out):
                     there = opened.enter_context(os.fdopen(open_file(self.wanted.out, os.O_RDONLY), "rb"))
@@ -147,7 +143,11 @@ class ByLog(Recording):
                     there = opened.enter_context(beginning(there, self.feed.size))
                 files.append(there)
                 words += ["--after", name_of(there)]
-            self.wanted.by_log.answer("the log's copies", *words, name_of(self._workflow), *self.copies.paths(), files=tuple(files), out=made)
+            logs = self.copies.paths(before)
+            if before:
+                files.append(opened.enter_context(self.copies.part(before)))
+                logs.append(name_of(files[-1]))
+            self.wanted.by_log.answer("the log's copies", *words, name_of(self._workflow), *logs, files=tuple(files), out=made)
 
     def _keep(self, made: BinaryIO, is_last: bool) -> None:
         """Keeps the program's messages for the feed."""
@@ -170,10 +170,23 @@ class ByLog(Recording):
         if self.is_done and self.feed.is_beyond:
             raise Beyond("the feed goes on behind the position", f"in {self.wanted.out}", "append to it without --until")
 
-    def up_to_fault(self) -> bool:
-        """Whether there are transactions before the one at which the program found a fault; the copies end behind them then."""
-        log, byte = self._fault or ("", 0)
-        return bool(log) and self.copies.cut_before(log, byte)
+    def up_to_fault(self) -> None:
+        """Keeps what the program reads before the transaction at which it finds a fault."""
+        marks, passed, least = list(self.copies.marks), 0, len(self.copies.marks)
+        while passed + 1 < least:
+            middle = (passed + least) // 2
+            passed, least = (middle, least) if self._passes(marks[middle].place) else (passed, middle)
+        if passed:
+            self.transcribe(before=marks[passed].place)
+
+    def _passes(self, before: Place) -> bool:
+        """Whether the program reads what is before a place."""
+        with TemporaryFile(dir=self._folder) as made:
+            try:
+                self._answer(made, before)
+            except Stop:
+                return False
+        return True
 
     def is_altered(self) -> bool:
         """Whether a table of which the feed has no row has other columns now, and none of the others has."""

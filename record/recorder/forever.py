@@ -226,8 +226,9 @@ class _LiveByLog(_Live):
         try:
             self._transcribe(is_last)
         except Stop:
-            if recording.up_to_fault():
-                self._transcribe(is_last=True)
+            recording.up_to_fault()
+            with Held():
+                self._put()
             if recording.is_altered():
                 raise _Altered from None
             raise

@@ -6,11 +6,12 @@ more is taken away once the note is in its place.
 """
 import os
 from contextlib import suppress
-from typing import NamedTuple
+from tempfile import TemporaryFile
+from typing import BinaryIO, NamedTuple
 
 from .cells import Bytes
 from .events import HEADER, GtidEvent, LogEvent
-from .files import open_file, writing
+from .files import PIECE, open_file, writing
 from .position import Gtid, Position, Until, domain_uuid
 from .server import Place
 from .stop import BEHIND, Stop
@@ -76,8 +77,9 @@ class Copies:
     def _names(self) -> list[str]:
         return sorted(os.listdir(self._folder), key=lambda name: (number_of(name), name))
 
-    def paths(self) -> list[str]:
-        return [os.path.join(self._folder, name) for name in self._names()]
+    def paths(self, before: Place | None = None) -> list[str]:
+        """The copies, or those of the logs before that of a place."""
+        return [os.path.join(self._folder, name) for name in self._names() if before is None or number_of(name) < number_of(before.log)]
 
     def _opens(self) -> bool:
         """Opens the copy of the place's log, and cuts it there, if it is of that log."""
@@ -99,8 +101,7 @@ class Copies:
 
     def _say_in_use(self, is_so: bool) -> None:
         self._file.flush()
-        [flags] = os.pread(self._file.fileno(), 1, FLAGS)
-        os.pwrite(self._file.fileno(), bytes([flags & ~IN_USE | IN_USE * is_so]), FLAGS)
+        _say_in_use(self._file.fileno(), is_so)
 
     def take(self, log: str, event: Bytes) -> LogEvent | int:
         """Writes an event that the log's file has, unless it is beyond the position that is to be reached; answers its kind."""
@@ -173,25 +174,17 @@ class Copies:
             position.add(self.marks.pop(0).gtid)
         return (self.marks[0].place, set(self.marks[0].prepared)) if self.marks else (self.end, set(self.prepared))
 
-    def cut_before(self, log: str, byte: int) -> bool:
-        """Cuts the copies where the last transaction begins that doesn't begin behind a byte; answers whether one does."""
-        before = [mark for mark in self.marks if (number_of(mark.place.log), mark.place.offset) <= (number_of(log), byte)]
-        if not before:
-            return False
-        place = before[-1].place
-        self.close()
-        self._log, self._size = place.log, place.offset
-        self.marks, self.prepared = [mark for mark in self.marks if mark in before[:-1]], set(before[-1].prepared)
-        with writing(self._folder):
-            for path in self.paths():
-                if number_of(path) > number_of(place.log):
-                    os.unlink(path)
-            with open(os.path.join(self._folder, place.log), "r+b", BUFFER) as file:
-                self._file = file
-                file.truncate(place.offset)
-                self._say_in_use(True)
-            self._file = None
-        return True
+    def part(self, before: Place) -> BinaryIO:
+        """The beginning of a copy, up to a place, as a file of its own that a server still writes."""
+        part = TemporaryFile(dir=self._folder)  # noqa: SIM115
+        with writing(self._folder), open(os.path.join(self._folder, before.log), "rb") as whole:
+            left = before.offset
+            while left and (piece := whole.read(min(PIECE, left))):
+                part.write(piece)
+                left -= len(piece)
+            part.flush()
+            _say_in_use(part.fileno(), True)
+        return part
 
     def flush(self) -> None:
         with writing(self._folder):
@@ -217,3 +210,9 @@ class Copies:
             with suppress(OSError):
                 self._file.close()
         self._file = None
+
+
+def _say_in_use(file: int, is_so: bool) -> None:
+    """Has a file say whether its server still writes it."""
+    [flags] = os.pread(file, 1, FLAGS)
+    os.pwrite(file, bytes([flags & ~IN_USE | IN_USE * is_so]), FLAGS)
