@@ -190,6 +190,26 @@ def waited(trial) -> None:
     trial.check("by log, until", None if done.status == 0 and world.changes(world.by) == world.changes(world.own) else f"{done}")
 
 
+def altered(trial) -> None:
+    """A table without rows is altered while its feed lives; and a compaction is lent the feed."""
+    trial.server.sql("RESET MASTER; CREATE DATABASE e; CREATE TABLE e.t (id INT PRIMARY KEY); CREATE TABLE e.u (id INT PRIMARY KEY)")
+    world = World(trial, "altered", "-", "e.t", "e.u")
+    one = Command(*world.words(world.by, "--forever"))
+    one.awaits(lambda: one.has_said("going on"), "by log")
+    trial.server.sql("INSERT INTO e.u VALUES (1); ALTER TABLE e.t ADD v INT; INSERT INTO e.t VALUES (1, 2); UPDATE e.u SET id=2")
+    one.awaits(lambda: len(world.changes(world.by)) == 3, "a table that was altered")
+    workflow = trial.workflow("altered.json", ["-"], ["e.t", "e.u"])
+    done = commands.run("--program", trial.program, workflow, world.by, name="compact")
+    trial.check("by log, a compaction", None if done.status == 0 and not done.err else f"{done}")
+    trial.server.sql("INSERT INTO e.t VALUES (5, 6)")
+    one.awaits(lambda: b"+ t\tx35\tx36\n" in world.shown(world.by), "a transaction behind a compaction")
+    one.kill(signal.SIGTERM)
+    done, rows = one.wait(), trial.made(trial.program, "run", workflow, world.by)
+    trial.check("by log, altered", None if done.status == 0 else f"{done}")
+    trial.same("by log, altered and compacted", rows, trial.selected(workflow, "e"))
+    trial.server.sql("DROP DATABASE e")
+
+
 def refused(trial) -> None:
     """What the program refuses stops it with the program's line; the feed has what is before, or is as it was. What a table has that
     the program's feed would lack stops it before."""
@@ -214,10 +234,10 @@ def refused(trial) -> None:
     trial.check("by log, a purged log", commands.run(*other.words(other.by)).why_not_stopped("refused 159 file "))
     for words in ["--from-snapshot"], ["--anew-behind"]:
         trial.check(f"by log, {words}", None if commands.run(*other.words(other.by, *words)).status == 2 else "another status")
-    trial.server.sql("DROP DATABASE b; RESET MASTER; " + "".join(f"DROP DATABASE {schema}; " for schema in SCHEMAS))
+    trial.server.sql("DROP DATABASE b; RESET MASTER; " + "".join(f"DROP DATABASE IF EXISTS {schema}; " for schema in SCHEMAS))
 
 
 def bylog(trial) -> None:
     commands.command()
-    for step in loaded, killed, rotated, interrupted, waited, refused:
+    for step in loaded, killed, rotated, interrupted, waited, refused, altered:
         step(trial)
