@@ -102,7 +102,7 @@ class ByLog(Recording):
         return self._copying(stream, self.copies.end, True)
 
     def _copying(self, stream, start: Place, waits: bool) -> Iterator[bool]:
-        if not waits and self.copies.end == self._end or self.copies.is_done:
+        if not waits and start == self._end or self.copies.is_done:
             return
         for log, event in copied(stream, start, waits):
             with Held():
@@ -151,7 +151,7 @@ class ByLog(Recording):
 
     def _keep(self, made: BinaryIO, is_last: bool) -> None:
         """Keeps the program's messages for the feed."""
-        file, start, was = made.fileno(), 0, self.written
+        file, start, was, is_last = made.fileno(), 0, self.written, is_last or bool(self.copies.thinned)
         for end in ends(file, 0, os.fstat(file).st_size):
             events = events_of(file, start, end)
             if len(events) > 1 or is_last:
@@ -176,7 +176,7 @@ class ByLog(Recording):
         while passed + 1 < least:
             middle = (passed + least) // 2
             passed, least = (middle, least) if self._passes(marks[middle].place) else (passed, middle)
-        if passed:
+        if passed or self.copies.thinned and self._passes(marks[0].place):
             self.transcribe(before=marks[passed].place)
 
     def _passes(self, before: Place) -> bool:

@@ -22,6 +22,7 @@ FIRST = len(MAGIC)
 FLAGS, IN_USE = FIRST + 17, 1
 """The byte of a file that says whether its server still writes it, and how."""
 BUFFER = 2**20
+MOST_MARKS = 2**16
 PREPARED, ENDED = 0x40, 0x80
 """Of a transaction's flags: an XA transaction is prepared by it, or ended."""
 ITS_FLAGS = HEADER.size + 12
@@ -40,9 +41,9 @@ def folder_of(feed: str) -> str:
 
 
 def number_of(log: str) -> int:
-    """A log's place among a server's."""
-    number = log.rpartition(".")[2]
-    return int(number) if number.isdigit() else 0
+    """A log's place among a server's; -1 of what is no log's name."""
+    name, _, number = log.rpartition(".")
+    return int(number) if name and number.isdigit() and number.isascii() else -1
 
 
 class Copies:
@@ -53,6 +54,8 @@ class Copies:
         self._place, self._until = place, until
         self.begun = {place.log: begun}
         self._seen, self.prepared, self.marks = Position(position.last), set(prepared), []
+        self.thinned: dict[int, Gtid] = {}
+        """Of each domain the last transaction before the marked ones whose mark was left out: the feed has to reach it."""
         self.is_done = False
         """Whether the position is reached up to which is copied."""
 
@@ -60,6 +63,8 @@ class Copies:
         """Where the server's log is to be copied from: behind the copies that are there, or else its `first` file, where all of
         them are wanted, or that of the place."""
         with writing(self._folder):
+            if os.path.islink(self._folder):
+                raise Stop("a link", f"at {self._folder}", "let a folder be there, or nothing")
             os.makedirs(self._folder, exist_ok=True)
             number, names = number_of(self._place.log), self._names()
             is_there = self._place.log in names and self._opens()
@@ -75,7 +80,7 @@ class Copies:
         return first if wants_all else Place(self._place.log, FIRST)
 
     def _names(self) -> list[str]:
-        return sorted(os.listdir(self._folder), key=lambda name: (number_of(name), name))
+        return sorted((name for name in os.listdir(self._folder) if number_of(name) >= 0), key=number_of)
 
     def paths(self, before: Place | None = None) -> list[str]:
         """The copies, or those of the logs before that of a place."""
@@ -129,7 +134,7 @@ class Copies:
         return kind
 
     def _begin_log(self, log: str) -> None:
-        if os.path.basename(log) != log or log.startswith("."):
+        if os.path.basename(log) != log or number_of(log) < 0:
             raise Stop("a log's name that no file has", f"({log})", "record without --by-log")
         if self._file and self._is_whole:
             self._say_in_use(False)
@@ -147,6 +152,9 @@ class Copies:
             return
         if self._looks_done():
             return
+        if len(self.marks) >= MOST_MARKS:
+            self.thinned |= {mark.gtid.domain: mark.gtid for mark in self.marks[:MOST_MARKS // 2]}
+            del self.marks[:MOST_MARKS // 2]
         self.marks.append(Mark(gtid, self.end, frozenset(self.prepared)))
         self._seen.add(gtid)
         if event[ITS_FLAGS] & PREPARED:
@@ -164,14 +172,20 @@ class Copies:
 
     @property
     def end(self) -> Place:
-        """Where the copies end."""
-        return Place(self._log, self._size) if self._log else self._place
+        """Where the copies end; of no log where there are none yet."""
+        return Place(self._log, self._size)
 
     def reached(self, sets: dict[str, int], position: Position) -> tuple[Place, set[bytes]]:
         """Adds those of the marked transactions to a position that a feed's has; answers where the first one begins that it hasn't,
         and what is prepared there."""
-        while self.marks and sets.get(domain_uuid(self.marks[0].gtid.domain), 0) >= self.marks[0].gtid.sequence:
-            position.add(self.marks.pop(0).gtid)
+        for gtid in self.thinned.values():
+            position.add(gtid)
+        self.thinned.clear()
+        lacks = (number for number, mark in enumerate(self.marks) if sets.get(domain_uuid(mark.gtid.domain), 0) < mark.gtid.sequence)
+        count = next(lacks, len(self.marks))
+        for mark in self.marks[:count]:
+            position.add(mark.gtid)
+        del self.marks[:count]
         return (self.marks[0].place, set(self.marks[0].prepared)) if self.marks else (self.end, set(self.prepared))
 
     def part(self, before: Place) -> BinaryIO:

@@ -63,13 +63,13 @@ def loaded(trial) -> None:
     byte."""
     trial.server.sql("RESET MASTER; " + creation())
     worlds = [World(trial, schema, shard, *tables_of(schema)) for schema, shard in zip(SCHEMAS, SHARDS)]
-    Load(trial.server.socket, 11, clients=4, transactions=80, xa=False).wait()
+    Load(trial.server.socket, 11, clients=4, transactions=30, xa=False).wait()
     for world in worlds:
         world.same("a load")
-    with Load(trial.server.socket, 12, clients=4, transactions=40, xa=False, goes_on=True) as load:
-        for at in range(4):
+    with Load(trial.server.socket, 12, clients=4, transactions=20, xa=False, goes_on=True) as load:
+        for at in range(3):
             time.sleep(0.2)
-            if at == 2:
+            if at == 1:
                 trial.server.sql("FLUSH BINARY LOGS")
             until = trial.server.sql("SELECT @@gtid_binlog_pos").stdout.decode().strip()
             for world in worlds:
@@ -161,16 +161,28 @@ def killed(trial) -> None:
     trial.check("by log, each transaction once", None if fine else f"{done}, {len(have)} groups and {len(want)}")
 
 
+def _thins() -> None:
+    """Few transactions are marked at once."""
+    from recorder import logcopies
+
+    logcopies.MOST_MARKS = 2
+
+
 def waited(trial) -> None:
     """Each transaction is in the feed when it commits, over two logs; an XA transaction is waited for; --until ends it."""
     world = World(trial, "rotated", "-", "b.t", "b.u")
     world.record("--append")
-    one = Command(*world.words(world.by, "--append", "--forever"))
+    shutil.rmtree(f"{world.by}.logs")
+    one = Command(*world.words(world.by, "--append", "--forever"), prepare=_thins)
     one.awaits(lambda: one.has_said("going on"), "by log")
     for number, more in enumerate(["", "FLUSH BINARY LOGS; ", ""], 100):
         size = os.path.getsize(world.by)
         trial.server.sql(f"{more}INSERT INTO b.t VALUES ({number}, 'l')")
         one.awaits(lambda size=size: os.path.getsize(world.by) > size, "a transaction")
+    for line in trial.server.sql("SHOW PROCESSLIST").stdout.decode().splitlines():
+        if "Binlog Dump" in line:
+            trial.server.sql(f"KILL {line.split()[0]}; INSERT INTO b.t VALUES (103, 'k')")
+    one.awaits(lambda: one.has_said("going on", 2) and b"x313033" in world.shown(world.by), "a connection anew")
     trial.server.sql("XA START 'x'; INSERT INTO b.u VALUES (100, 'x'); XA END 'x'; XA PREPARE 'x'")
     one.awaits(lambda: one.has_said("an XA transaction of recorded tables is prepared"), "an XA transaction")
     size = os.path.getsize(world.by)
