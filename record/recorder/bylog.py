@@ -73,7 +73,8 @@ class ByLog(Recording):
                 kind, width = column.kind, column.printing.width
                 if kind in UNREAD or width and kind != Kind.BINARY and (kind, width) != (Kind.YEAR, 4):
                     what = kind.name if kind in UNREAD or kind == Kind.YEAR else "ZEROFILL"
-                    raise Stop(f"column {column.name}, which is {what},", f"in {table.schema}.{table.name}", f"the log doesn't tell it as the server prints it; {WITHOUT}")
+                    raise Stop(f"column {column.name}, which is {what},", f"in {table.schema}.{table.name}",
+                               f"transcribe doesn't tell it as the server prints it; {WITHOUT}")  # fmt: skip
 
     def catch_up(self) -> None:
         """Copies the log up to where it ended, and has the program read the copies."""
