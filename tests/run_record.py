@@ -450,6 +450,13 @@ def transcribed(trial: Trial) -> None:
     logs.transcribed(trial)
 
 
+def by_log(trial: Trial) -> None:
+    """Feeds that the program makes of copies of the server's log."""
+    from record import bylog
+
+    bylog.bylog(trial)
+
+
 def from_vtgate(trial: Trial) -> None:
     """Feeds from what VTGate sends, by its changes and by a copy, over a stand-in for it."""
     from record.vtgate_trials import vtgate
@@ -460,7 +467,7 @@ def from_vtgate(trial: Trial) -> None:
 STEPS: list[list[Callable[[Trial], None]]] = [
     [statements, stops, prepared, reached, harmless, random_tables, merged_and_split, by_hash, kinds, portions, grown, late, workflows, from_vtgate,
      operated, living],
-    [kept, anew, large, compared, compacted, repaired, paged, transcribed],
+    [kept, anew, large, compared, compacted, repaired, paged, transcribed, by_log],
 ]  # fmt: skip
 """Side by side, each over a server of its own: a step may need what one before it has made."""
 

@@ -37,6 +37,8 @@ Modules, from the lowest up; each has one idea:
     elsewhere     another server's log, gone on with by GTID
     recording     all of these, one behind the other
     plans         workflow files, and all that a reshard needs
+    logcopies     a server's log files, copied beside a feed
+    bylog         a recording by the program's `transcribe` over such copies
     forever       a recording that goes on with each transaction as it commits
     filters       a workflow's filters as conditions of SQL
     program       the program, and what it answers

@@ -73,6 +73,11 @@ class FeedFile:
                     end()
 
     @property
+    def is_there(self) -> bool:
+        """Whether the file is in its place."""
+        return self._own == ""
+
+    @property
     def waits(self) -> bool:
         """Whether there are groups that aren't put yet, and can be."""
         return self._is_sound and (self._kept < self.size or self._own != "")

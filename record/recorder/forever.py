@@ -13,7 +13,7 @@ from .ending import Ended, Held, Last, tell
 from .events import Event, LogEvent
 from .locks import Lent, locked
 from .note import Note, note_path
-from .recording import MINUTE, Recording, Wanted, check_free_or_there, left_as_it_was
+from .recording import MINUTE, Recording, Wanted, check_free_or_there, left_as_it_was, recording_of
 from .server import events
 from .stop import AGAIN, Lost, Stop
 from .transactions import Transaction
@@ -72,13 +72,13 @@ class _Forever:
 
     def _over_one_connection(self) -> Note:
         with ExitStack() as opened:
-            recording = Recording(self._wanted, opened)
+            recording = recording_of(self._wanted, opened)
             recording.catch_up()
             recording.check_begun()
             with Held():
                 recording.put()
                 self._wanted, self._pause, self.has_begun = replace(self._wanted, append=True, from_snapshot=False, behind=False), FIRST_PAUSE, True
-            _Live(recording, self._lock).run()
+            (_LiveByLog if self._wanted.by_log else _Live)(recording, self._lock).run()
             return recording.note
 
 
@@ -176,3 +176,71 @@ class _Live:
         which = f"{groups} groups since the last line, {self._behind}" if self._behind else "going on"
         tell(f"feed: {time.strftime('%Y-%m-%dT%H:%M:%SZ', time.gmtime())} {self._recording.wanted.out}: {self._feed.size} bytes,"
              f" up to {note.gtids or 'nothing'} at {note.place}; {which}")
+
+
+class _LiveByLog(_Live):
+    """The same where the program reads the log: it reads what was copied as often as there are whole transactions more, and at most
+    half of the time."""
+
+    _least = TOGETHER
+    """The seconds between two of its readings."""
+    _whole: list = []
+    """The last whole transaction that was there when it read."""
+    _is_told = False
+    """Whether a line has said that an XA transaction is waited for."""
+
+    def run(self) -> None:
+        if self._recording.is_done:
+            return
+        self._tell()
+        try:
+            self._read()
+        except Ended:
+            with Last():
+                self._round(is_last=True)
+        except (Lost, _Asked):
+            self._round(is_last=True)
+            raise
+
+    def _read(self) -> None:
+        recording, marks = self._recording, self._recording.copies.marks
+        with closing(recording.wanted.login.connect()) as stream:
+            for is_between in recording.copying(stream):
+                # the last one that has begun is whole where nothing comes
+                whole = marks[-1:] if is_between or recording.copies.is_done else marks[-2:-1]
+                self._behind = "at the log's end" if is_between else "before the log's end"
+                if recording.copies.is_done or time.monotonic() >= self._told_at + MINUTE:
+                    self._round(is_last=True)
+                    if recording.is_done:
+                        return
+                    self._tell()
+                elif whole and whole != self._whole and time.monotonic() >= self._put_at + self._least:
+                    self._round()
+                    self._whole = whole
+                self._look_at_lock()
+        raise recording.lost()
+
+    def _round(self, is_last: bool = False) -> None:
+        """Has the program read what was copied. What is before a fault is put, before it is told."""
+        recording, begun = self._recording, time.monotonic()
+        try:
+            self._transcribe(is_last)
+        except Stop:
+            recording.up_to_fault()
+            with Held():
+                self._put()
+            if recording.is_altered():
+                raise _Altered from None
+            raise
+        self._least = max(TOGETHER, time.monotonic() - begun)
+
+    def _transcribe(self, is_last: bool) -> None:
+        recording, groups = self._recording, self._recording.groups
+        recording.transcribe(is_last)
+        self._groups += recording.groups - groups
+        if recording.pending and not self._is_told:
+            self._is_told = True
+            tell(f"feed: {self._recording.wanted.out} waits: {recording.pending}")
+        with Held():
+            self._put()
+        self._put_at = time.monotonic()

@@ -168,7 +168,7 @@ def _base_of(file: int) -> list[bytes] | None:
     """The tables' columns in the first message of a compacted feed."""
     end = next(ends(file, 0, os.fstat(file).st_size), None)
     try:
-        events = _events(file, 0, end) if end else []
+        events = events_of(file, 0, end) if end else []
         *fields, begin = map(messages.kind_of, events) if events else (EventType.COMMIT,)
     except (ValueError, IndexError):
         return None
@@ -216,12 +216,18 @@ def last_message(file: int, size: int) -> int:
     return before if at == size else size
 
 
+def with_flavour(position: str) -> str:
+    """A position as the recorder writes it; the program leaves the flavour out."""
+    return position if "/" in position else f"MySQL56/{position}"
+
+
 def position_of(file: int, start: int, end: int) -> str | None:
     """The position of the group that one message ends, None where a file's bytes between two places aren't such a message."""
     try:
-        return messages.position_in(_events(file, start, end))
+        position = messages.position_in(events_of(file, start, end))
     except (ValueError, IndexError):
         return None
+    return position and with_flavour(position)
 
 
 def groups_between(file: int, start: int, end: int) -> Iterator[tuple[int, int, str]]:
@@ -245,12 +251,12 @@ def _is_readable(position: str) -> bool:
 def _is_part(file: int, start: int, end: int) -> bool:
     """Whether a file's bytes between two places are a message that ends no group."""
     try:
-        return {messages.kind_of(event) for event in _events(file, start, end)} <= {EventType.BEGIN, EventType.FIELD, EventType.ROW}
+        return {messages.kind_of(event) for event in events_of(file, start, end)} <= {EventType.BEGIN, EventType.FIELD, EventType.ROW}
     except (ValueError, IndexError):
         return False
 
 
-def _events(file: int, start: int, end: int) -> list[bytes]:
+def events_of(file: int, start: int, end: int) -> list[bytes]:
     """The events of one message behind its length, between two places of a file; of one with many rows its kind alone."""
     if end - start <= AT_ONCE:
         data = os.pread(file, end - start, start)

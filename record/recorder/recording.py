@@ -19,6 +19,7 @@ from .locks import check_there, locked
 from .note import Note, check_end, note_path
 from .position import SNAPSHOT_UUID, Position, Until, domain_uuid, sets_of
 from .prepared import prepared_at
+from .program import Program
 from .server import Login, Place, check_schemas, check_settings, end_place, events, first_place, gtids_at, log_sizes, server_id, why_unread
 from .snapshot import Snapshot
 from .statements import Name
@@ -52,10 +53,12 @@ class Wanted:
     """Whether the rows of a snapshot stand between the feed that is gone on with and the log behind it."""
     keyspace: str | None = None
     """Of which positions are to be VGTIDs; else they are GTIDs, or what the feed that is gone on with has."""
+    by_log: Program | None = None
+    """The program that reads the log, where it isn't read here."""
 
 
 @dataclass
-class _Start:
+class Start:
     """Where a recording goes on: a place in the log, and what the feed has before it."""
 
     place: Place
@@ -100,7 +103,7 @@ def record(wanted: Wanted) -> Note:
     as it is, where the feed couldn't say what the tables are."""
     try:
         with locked(wanted.out, lambda: check_free_or_there(wanted)), ExitStack() as opened:
-            recording = Recording(wanted, opened)
+            recording = recording_of(wanted, opened)
             recording.catch_up()
             recording.check_whole()
             with Last():
@@ -108,6 +111,15 @@ def record(wanted: Wanted) -> Note:
             return recording.note
     except Ended as ended:
         raise Stop(f"ended by {ended}", "", left_as_it_was(wanted)) from None
+
+
+def recording_of(wanted: Wanted, opened: ExitStack) -> "Recording":
+    """What one connection records, by what is wanted to read the log."""
+    if wanted.by_log is None:
+        return Recording(wanted, opened)
+    from .bylog import ByLog
+
+    return ByLog(wanted, opened)
 
 
 def left_as_it_was(wanted: Wanted) -> str:
@@ -161,16 +173,16 @@ class Recording:
         """The tables that the feed has where the reading begins."""
         return [table for table in self.tables if table not in self._further]
 
-    def _first(self) -> _Start:
+    def _first(self) -> Start:
         """The start of a new feed: the log's beginning, or the place of a snapshot."""
         snapshot = self._snapshot
         if snapshot is None:
-            return _Start(first_place(self.connection), Position(), set(), {})
+            return Start(first_place(self.connection), Position(), set(), {})
         gtids = gtids_at(self.connection, snapshot.place)
         if gtids is None:
             raise Stop("the snapshot's place isn't in the log", f"at {snapshot.place}", why_unread(self.connection, snapshot.place) + AGAIN)
         prepared = prepared_at(self.wanted.login, self.connection, self.tables, snapshot.place)
-        return _Start(snapshot.place, Position.read(gtids), set(), dict.fromkeys(prepared))
+        return Start(snapshot.place, Position.read(gtids), set(), dict.fromkeys(prepared))
 
     def _old_note(self) -> Note:
         """The note of the feed that is gone on with."""
@@ -185,7 +197,7 @@ class Recording:
             raise Stop("another table, or other columns, than the feed has", f"in {name}, which isn't named", "name all tables of the feed")
         return note
 
-    def _behind(self, note: Note) -> _Start:
+    def _behind(self, note: Note) -> Start:
         """The start of an append, behind what the note's feed has."""
         there = self._tables_there()
         layouts = {".".join(table.full): table.layout() for table in there}
@@ -193,7 +205,7 @@ class Recording:
             if note.tables.get(name) != layouts.get(name) and (name in note.filled or name not in note.tables or name not in layouts):
                 raise Stop("another table, or other columns, than the feed has", f"in {name}", BEHIND)
         filled = {table.full for table in there if ".".join(table.full) in note.filled}
-        start = _Start(note.place, note.reached(), filled, {bytes.fromhex(xa): None for xa in note.prepared}, note.position, note.begun)
+        start = Start(note.place, note.reached(), filled, {bytes.fromhex(xa): None for xa in note.prepared}, note.position, note.begun)
         if note.server_id not in (None, self._server_id):
             start.elsewhere, start.begun = Elsewhere(self.connection, note.reached()), None
             start.place = start.elsewhere.start

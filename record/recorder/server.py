@@ -20,7 +20,8 @@ from .cells import Bytes
 from .events import Event, LogEvent, event_of
 from .stop import AGAIN, BEHIND, Lost, Stop
 
-WITHOUT_WAITING = 1
+WITHOUT_WAITING, WITH_TEXTS = 1, 2
+"""What a client asks for: the events up to the log's end alone; those too that have the texts of statements."""
 CRC32 = 1
 HEADER_KIND = 4
 PATIENCE = 600
@@ -203,9 +204,19 @@ def log_sizes(connection: pymysql.Connection) -> dict[str, int]:
 def events(connection: pymysql.Connection, start: Place, waits: bool = False) -> Iterator[Event]:
     """The events from a place to the log's end; or where it `waits` all that ever come, with a heartbeat wherever there is
     none. Stops where the server refuses."""
-    ask(connection, f"SET @master_binlog_checksum='NONE', @mariadb_slave_capability=4, @master_heartbeat_period={int(HEARTBEAT * 1e9)}")
+    return _sent(connection, start, waits, "NONE", 0, _Reading.events)
+
+
+def copied(connection: pymysql.Connection, start: Place, waits: bool = False) -> Iterator[tuple[str, Bytes]]:
+    """The same events as the log's file has them, with their heads and checksums, each behind the file's name."""
+    return _sent(connection, start, waits, "CRC32", WITH_TEXTS, _Reading.copied)
+
+
+def _sent(connection: pymysql.Connection, start: Place, waits: bool, checksums: str, asked: int, read: Callable[["_Reading"], Iterator]) -> Iterator:
+    ask(connection, f"SET @master_binlog_checksum='{checksums}', @mariadb_slave_capability=4, @master_heartbeat_period={int(HEARTBEAT * 1e9)}")
     # a server ends the older one of two that have one number, and lets nobody wait who has none
-    request = struct.pack("<IHI", start.offset, 0, random.getrandbits(31) | 1 << 31) if waits else struct.pack("<IHI", start.offset, WITHOUT_WAITING, 0)
+    number = random.getrandbits(31) | 1 << 31 if waits else 0
+    request = struct.pack("<IHI", start.offset, asked | WITHOUT_WAITING * (not waits), number)
     try:
         connection._execute_command(COMMAND.COM_BINLOG_DUMP, request + start.log.encode())
     except pymysql.err.MySQLError as fault:
@@ -213,7 +224,7 @@ def events(connection: pymysql.Connection, start: Place, waits: bool = False) ->
     connection._sock.settimeout(SILENCE if waits else PATIENCE)
     reading = _Reading(connection._sock, start.log)
     try:
-        yield from reading.events()
+        yield from read(reading)
     except pymysql.err.MySQLError as fault:
         if fault.args[:1] == (NOT_IN_THE_LOG,):
             raise Stop("the log can't be read", f"behind {reading.log}", f"{fault.args[-1]}; {BEHIND}") from None
@@ -256,6 +267,25 @@ class _Reading:
             log, checksums = self.log, self._checksums
             # a large one goes before another one comes
             event = None
+
+    def copied(self) -> Iterator[tuple[str, Bytes]]:
+        """The events with their heads and checksums, each behind its file's name. MySQLError as above."""
+        data, at = b"", 0
+        while True:
+            if at + PACKET_SIZE <= len(data):
+                low, high, mark, _time, kind, *_ = PACKET.unpack_from(data, at)
+                behind = at + 4 + (low | high << 16)
+                if behind <= len(data) and not mark and kind not in OF_A_LOG and behind - at >= PACKET_SIZE:
+                    yield self.log, data[at + 5:behind]
+                    at = behind
+                    continue
+            packet, data = self._packet(data[at:])
+            at = 0
+            if packet is None:
+                return
+            yield self.log, packet
+            if packet[HEADER_KIND] == LogEvent.ROTATE:
+                self.log = self._event(packet).body[8:].decode()
 
     def _damaged(self) -> Stop:
         return Stop("an event whose checksum is another", f"in {self.log}", f"the log is damaged there; {BEHIND}")

@@ -18,7 +18,7 @@ KILLS = 60
 
 
 @contextmanager
-def clients(socket: str, seed: int) -> Iterator[None]:
+def clients(socket: str, seed: int, xa: bool = True) -> Iterator[None]:
     """Clients that write until the end of the block, in a process of their own: this one is forked meanwhile."""
     begin, end = os.pipe()
     pid = os.fork()
@@ -26,7 +26,7 @@ def clients(socket: str, seed: int) -> Iterator[None]:
         try:
             die_with_parent()
             os.close(end)
-            with Load(socket, seed, clients=4, transactions=5, xa=True, goes_on=True) as load:
+            with Load(socket, seed, clients=4, transactions=5, xa=xa, goes_on=True) as load:
                 os.read(begin, 1)
             load.wait()
             os._exit(0)

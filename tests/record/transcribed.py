@@ -76,7 +76,7 @@ def collated(trial) -> None:
 
 
 def transcribed(trial) -> None:
-    """Four checks a batch, and one of all collations."""
+    """Five checks a batch, and one of all collations."""
     for begin in range(0, ROUNDS, BATCH):
         r = random.Random(f"transcribed {begin}")
         labels = begin // BATCH % 2 == 0
@@ -88,12 +88,15 @@ def transcribed(trial) -> None:
         tables = [f"{SCHEMA}.t{number}" for number in range(begin, begin + BATCH)]
         workflow, feed = trial.workflow("transcribed.json", ["-"], tables), trial.path("transcribed.feed")
         trial.recorded("--shard", "-", "--keyspace", "ks", "--out", feed, *tables)
-        logs, made = log_files(trial), trial.path("made.feed")
+        logs, made, by_log = log_files(trial), trial.path("made.feed"), trial.path("bylog.feed")
+        trial.recorded("--shard", "-", "--keyspace", "ks", "--by-log", "--program", trial.program, "--out", by_log, *tables)
         told = trial.made(trial.program, "transcribe", "--save-to", made, "--shard", "-", "--schema", SCHEMA, workflow, *logs)
         trial.check(f"transcribed {begin} tells nothing", repr(told) if told else None)
         rows = trial.made(trial.program, "run", workflow, made)
         trial.same(f"transcribed {begin} as recorded, of {len(logs)} files", rows, trial.made(trial.program, "run", workflow, feed), BATCH)
         trial.same(f"transcribed {begin} as the server has", rows, trial.selected(workflow, SCHEMA), BATCH)
+        shown = [trial.made(trial.program, "show", "--keyspace", "ks", "--shard", "-", of) for of in (feed, by_log)]
+        trial.check(f"transcribed {begin} by --by-log", None if shown[0] == shown[1] else "other groups than the recorder's")
         ends = {_end(trial.made(trial.program, "show", "--keyspace", "ks", "--shard", "-", of)) for of in (feed, made)}
         trial.check(f"transcribed {begin} up to the same position", repr(ends) if len(ends) > 1 else None)
         trial.server.sql(f"DROP DATABASE {SCHEMA}; RESET MASTER; SET GLOBAL binlog_row_metadata=FULL, log_bin_compress=0")

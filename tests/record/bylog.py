@@ -1,0 +1,255 @@
+"""Feeds that the program makes of copies of the server's log (record/feed --by-log), held to those that the recorder reads itself:
+the same groups, by what `show` prints, from the whole log and grown over it, killed at each moment, and stopped by what the program
+refuses."""
+import json
+import os
+import random
+import shutil
+import signal
+import time
+
+from . import commands
+from .commands import At, Command, Done
+from .kept import read_file
+from .load import SCHEMAS, SHARDS, Load, creation, tables_of
+from .living import clients
+
+KILLS = 12
+
+
+class World:
+    """Two feeds of the same tables: one `by` the program, and the recorder's `own`."""
+
+    def __init__(self, trial, name: str, shard: str, *tables: str) -> None:
+        self.trial, self.by, self.own = trial, trial.path(f"{name}.by.feed"), trial.path(f"{name}.own.feed")
+        self._words, self._tables = ["--socket", trial.server.socket, "--user", "root", f"--shard={shard}", "--keyspace", "ks"], tables
+        self._shard = shard
+
+    def words(self, out: str, *words: str) -> list[str]:
+        more = ["--by-log", "--program", self.trial.program] if out == self.by else []
+        return [*self._words, *more, *words, "--out", out, *self._tables]
+
+    def record(self, *words: str) -> list[Done]:
+        return [commands.run(*self.words(out, *words)) for out in (self.by, self.own)]
+
+    def shown(self, out: str) -> bytes:
+        return self.trial.made(self.trial.program, "show", "--keyspace", "ks", f"--shard={self._shard}", out)
+
+    def changes(self, out: str) -> list[tuple[bytes, bytes]]:
+        """The positions of the groups that change rows, and their rows."""
+        shown = [group.partition(b"\n") for group in self.shown(out).split(b"group ")[1:]]
+        return [(head.split(b" ")[1], rows) for head, _, rows in shown if rows]
+
+    def same(self, name: str, *words: str) -> None:
+        """Records both, and checks that one call has made of them the same groups."""
+        done = self.record(*words)
+        wrong = [one for one in done if one.status or one.err]
+        shown = [self.shown(out) for out in (self.by, self.own)] if not wrong else []
+        self.trial.check(f"by log, {name}", f"{wrong}" if wrong else None if shown[0] == shown[1] != b"" else "other groups")
+        notes = [json.loads(read_file(f"{out}.json")) for out in (self.by, self.own)] if not wrong else [{}, {}]
+        lacking = [key for key, value in notes[1].items() if key not in ("size", "last", "place", "begun") and notes[0].get(key) != value]
+        self.trial.check(f"by log, {name}, the note", f"{[(key, notes[0].get(key), notes[1][key]) for key in lacking]}" if lacking else None)
+
+    def copies(self) -> list[str]:
+        return sorted(os.listdir(f"{self.by}.logs"))
+
+
+def logs_of(trial) -> list[str]:
+    return [line.split()[0] for line in trial.server.sql("SHOW BINARY LOGS").stdout.decode().splitlines()]
+
+
+def loaded(trial) -> None:
+    """Both shards of a load, from the whole log and appended to while clients write; the copies are the server's files, byte for
+    byte."""
+    trial.server.sql("RESET MASTER; " + creation())
+    worlds = [World(trial, schema, shard, *tables_of(schema)) for schema, shard in zip(SCHEMAS, SHARDS)]
+    Load(trial.server.socket, 11, clients=4, transactions=30, xa=False).wait()
+    for world in worlds:
+        world.same("a load")
+    with Load(trial.server.socket, 12, clients=4, transactions=20, xa=False, goes_on=True) as load:
+        for at in range(3):
+            time.sleep(0.2)
+            if at == 1:
+                trial.server.sql("FLUSH BINARY LOGS")
+            until = trial.server.sql("SELECT @@gtid_binlog_pos").stdout.decode().strip()
+            for world in worlds:
+                world.same(f"a load, append {at}", "--append", "--until", until)
+    load.wait()
+    for world in worlds:
+        world.same("a load, the rest", "--append")
+    [last] = worlds[0].copies()
+    have, want = read_file(f"{worlds[0].by}.logs/{last}"), read_file(os.path.join(trial.server.folder, "data", last))
+    trial.check("by log, copies", None if last == logs_of(trial)[-1] and have and want.startswith(have) else f"{last}, {len(have)} bytes and {len(want)}")
+    for world in worlds:
+        done = commands.run(*(word for word in world.words(world.by, "--append") if word not in ("--by-log", "--program", trial.program)))
+        trial.check("by log, gone on with by the recorder", None if done.status == 0 and world.shown(world.by) == world.shown(world.own) else f"{done}")
+
+
+def rotated(trial) -> None:
+    """Copies go when no log before has to be read: once each table has had rows. What was purged meanwhile isn't needed."""
+    trial.server.sql("CREATE DATABASE b; RESET MASTER; CREATE TABLE b.t (id INT PRIMARY KEY, v CHAR(3)); CREATE TABLE b.u LIKE b.t; INSERT INTO b.t VALUES (1, 'a')")
+    world = World(trial, "rotated", "-", "b.t", "b.u")
+    world.same("a table without rows")
+    trial.server.sql("FLUSH BINARY LOGS; INSERT INTO b.t VALUES (2, 'b'); FLUSH BINARY LOGS; INSERT INTO b.t VALUES (3, 'c')")
+    world.same("two logs more", "--append")
+    trial.check("by log, copies that stay", None if world.copies() == logs_of(trial) and len(world.copies()) == 3 else f"{world.copies()}")
+    trial.server.purge(logs_of(trial)[-1])
+    trial.server.sql("INSERT INTO b.u VALUES (1, 'u'); UPDATE b.t SET v='z'; DELETE FROM b.t WHERE id=2; BEGIN; INSERT INTO b.t VALUES (9, 'x'); ROLLBACK")
+    world.same("behind logs that were purged", "--append")
+    trial.check("by log, copies that go", None if world.copies() == logs_of(trial)[-1:] else f"{world.copies()}")
+    shutil.rmtree(f"{world.by}.logs")
+    trial.server.sql("INSERT INTO b.u VALUES (2, 'u')")
+    world.same("without copies", "--append")
+    snapshot = World(trial, "snapshot", "-", "b.t", "b.u")
+    commands.run(*(word for word in snapshot.words(snapshot.by, "--from-snapshot") if word not in ("--by-log", "--program", trial.program)))
+    shutil.copy(snapshot.by, snapshot.own)
+    shutil.copy(f"{snapshot.by}.json", f"{snapshot.own}.json")
+    trial.server.sql("INSERT INTO b.u VALUES (3, 'u'); DELETE FROM b.t WHERE id=1")
+    snapshot.same("behind a snapshot", "--append")
+
+
+def interrupted(trial) -> None:
+    """An append is killed, and ended, at each system call that changes files: the next one goes on, and nothing that was seen is gone."""
+    trial.server.sql("INSERT INTO b.t VALUES (20, 'a'); FLUSH BINARY LOGS; INSERT INTO b.u VALUES (20, 'a'); INSERT INTO b.u VALUES (21, 'a')")
+    first = World(trial, "rotated", "-", "b.t", "b.u")
+    commands.run(*first.words(first.own, "--append"))
+    wanted = first.shown(first.own)
+
+    def copy(name: str) -> World:
+        world = World(trial, name, "-", "b.t", "b.u")
+        for end in "", ".json":
+            shutil.copy(first.by + end, world.by + end)
+        shutil.copytree(f"{first.by}.logs", f"{world.by}.logs")
+        return world
+
+    counted = copy("counted")
+    count = commands.calls_of(commands.CHANGING, *counted.words(counted.by, "--append"))
+
+    def why(item: tuple) -> str | None:
+        how, number = item
+        world = copy(f"{how}-{number}")
+        done = commands.run(*world.words(world.by, "--append"), prepare=At(number, getattr(commands, how)))
+        seen = read_file(world.by)
+        again = commands.run(*world.words(world.by, "--append"))
+        ended = done.status == -signal.SIGKILL or how == "ended"
+        cut = "cut off" in again.err
+        is_right = ended and again.status == 0 and world.shown(world.by) == wanted and (cut or read_file(world.by).startswith(seen))
+        return None if is_right else f"{done}, {again}"
+
+    faults = commands.spread([(how, number) for how in ("killed", "ended") for number in range(1, count + 1)], why)
+    trial.check("by log, interrupted", f"{len(faults)} of {count} calls: {faults[0]}" if faults or count < 10 else None)
+
+
+def killed(trial) -> None:
+    """Beside clients that write it is killed again and again, and goes on; no transaction is lost, and none is there twice."""
+    schema, shard = SCHEMAS[0], SHARDS[0]
+    world, chance, seen, faults = World(trial, schema, shard, *tables_of(schema)), random.Random(5), b"", []
+    with clients(trial.server.socket, 41, xa=False):
+        for at in range(KILLS):
+            one = Command(*world.words(world.by, "--append", "--forever"))
+            one.awaits(lambda one=one: one.has_said("going on"), "by log")
+            time.sleep(chance.random())
+            one.kill(signal.SIGTERM if at % 4 == 3 else signal.SIGKILL)
+            done, data = one.wait(), read_file(world.by)
+            if not data.startswith(seen) or done.status != (0 if at % 4 == 3 else -signal.SIGKILL):
+                faults.append(f"kill {at}: {len(data)} bytes behind {len(seen)}, {done}")
+            seen = data[:json.loads(read_file(f"{world.by}.json"))["size"]]
+    trial.check("by log, killed", f"{len(faults)}: {faults[0]}" if faults else None)
+    done = world.record("--append")
+    have, want = world.changes(world.by), world.changes(world.own)
+    fine = not any(one.status for one in done) and len(want) > 100 and have == want
+    trial.check("by log, each transaction once", None if fine else f"{done}, {len(have)} groups and {len(want)}")
+
+
+def _thins() -> None:
+    """Few transactions are marked at once."""
+    from recorder import logcopies
+
+    logcopies.MOST_MARKS = 2
+
+
+def waited(trial) -> None:
+    """Each transaction is in the feed when it commits, over two logs; an XA transaction is waited for; --until ends it."""
+    world = World(trial, "rotated", "-", "b.t", "b.u")
+    world.record("--append")
+    shutil.rmtree(f"{world.by}.logs")
+    one = Command(*world.words(world.by, "--append", "--forever"), prepare=_thins)
+    one.awaits(lambda: one.has_said("going on"), "by log")
+    for number, more in enumerate(["", "FLUSH BINARY LOGS; ", ""], 100):
+        size = os.path.getsize(world.by)
+        trial.server.sql(f"{more}INSERT INTO b.t VALUES ({number}, 'l')")
+        one.awaits(lambda size=size: os.path.getsize(world.by) > size, "a transaction")
+    for line in trial.server.sql("SHOW PROCESSLIST").stdout.decode().splitlines():
+        if "Binlog Dump" in line:
+            trial.server.sql(f"KILL {line.split()[0]}; INSERT INTO b.t VALUES (103, 'k')")
+    one.awaits(lambda: one.has_said("going on", 2) and b"x313033" in world.shown(world.by), "a connection anew")
+    trial.server.sql("XA START 'x'; INSERT INTO b.u VALUES (100, 'x'); XA END 'x'; XA PREPARE 'x'")
+    one.awaits(lambda: one.has_said("an XA transaction of recorded tables is prepared"), "an XA transaction")
+    size = os.path.getsize(world.by)
+    trial.check("by log, an XA transaction", commands.run(*world.words(world.by, "--append")).why_not_stopped("another recording writes this feed"))
+    trial.server.sql("XA COMMIT 'x'")
+    one.awaits(lambda: os.path.getsize(world.by) > size, "its end")
+    one.kill(signal.SIGTERM)
+    done = one.wait()
+    commands.run(*world.words(world.own, "--append"))
+    trial.check("by log, for ever", None if done.status == 0 and world.changes(world.by) == world.changes(world.own) else f"{done}")
+    last = int(trial.server.sql("SELECT @@gtid_binlog_pos").stdout.decode().strip().rpartition("-")[2])
+    one = Command(*world.words(world.by, "--append", "--forever", "--until", f"0-7-{last + 2}"))
+    one.awaits(lambda: one.has_said("going on"), "by log")
+    trial.server.sql("INSERT INTO b.t VALUES (110, 'l'); INSERT INTO b.t VALUES (111, 'l'); INSERT INTO b.t VALUES (112, 'l')")
+    done = one.wait()
+    commands.run(*world.words(world.own, "--append", "--until", f"0-7-{last + 2}"))
+    trial.check("by log, until", None if done.status == 0 and world.changes(world.by) == world.changes(world.own) else f"{done}")
+
+
+def altered(trial) -> None:
+    """A table without rows is altered while its feed lives; and a compaction is lent the feed."""
+    trial.server.sql("RESET MASTER; CREATE DATABASE e; CREATE TABLE e.t (id INT PRIMARY KEY); CREATE TABLE e.u (id INT PRIMARY KEY)")
+    world = World(trial, "altered", "-", "e.t", "e.u")
+    one = Command(*world.words(world.by, "--forever"))
+    one.awaits(lambda: one.has_said("going on"), "by log")
+    trial.server.sql("INSERT INTO e.u VALUES (1); ALTER TABLE e.t ADD v INT; INSERT INTO e.t VALUES (1, 2); UPDATE e.u SET id=2")
+    one.awaits(lambda: len(world.changes(world.by)) == 3, "a table that was altered")
+    workflow = trial.workflow("altered.json", ["-"], ["e.t", "e.u"])
+    done = commands.run("--program", trial.program, workflow, world.by, name="compact")
+    trial.check("by log, a compaction", None if done.status == 0 and not done.err else f"{done}")
+    trial.server.sql("INSERT INTO e.t VALUES (5, 6)")
+    one.awaits(lambda: b"+ t\tx35\tx36\n" in world.shown(world.by), "a transaction behind a compaction")
+    one.kill(signal.SIGTERM)
+    done, rows = one.wait(), trial.made(trial.program, "run", workflow, world.by)
+    trial.check("by log, altered", None if done.status == 0 else f"{done}")
+    trial.same("by log, altered and compacted", rows, trial.selected(workflow, "e"))
+    trial.server.sql("DROP DATABASE e")
+
+
+def refused(trial) -> None:
+    """What the program refuses stops it with the program's line; the feed has what is before, or is as it was. What a table has that
+    the program's feed would lack stops it before."""
+    world = World(trial, "rotated", "-", "b.t", "b.u")
+    world.record("--append")
+    one = Command(*world.words(world.by, "--append", "--forever"))
+    one.awaits(lambda: one.has_said("going on"), "by log")
+    trial.server.sql("INSERT INTO b.t VALUES (200, 'r'); INSERT INTO b.t VALUES (201, 'r'); TRUNCATE b.t; INSERT INTO b.t VALUES (202, 'r')")
+    done = one.wait()
+    rows = world.changes(world.by)[-1][1]
+    fine = done.status == 1 and "the log's copies: refused 152 file " in done.err and b"x323031" in rows
+    trial.check("by log, TRUNCATE", None if fine else f"{done}, {rows}")
+    data = read_file(world.by), read_file(f"{world.by}.json")
+    done = commands.run(*world.words(world.by, "--append"))
+    fine = data == (read_file(world.by), read_file(f"{world.by}.json"))
+    trial.check("by log, TRUNCATE again", done.why_not_stopped("refused 152 file ") or (None if fine else "changed"))
+    trial.server.sql("CREATE TABLE b.f (id INT PRIMARY KEY, f FLOAT); CREATE TABLE b.z (id INT(4) ZEROFILL PRIMARY KEY); CREATE TABLE b.ok (id INT PRIMARY KEY)")
+    for table, line in ("b.f", "column f, which is FLOAT32,"), ("b.z", "column id, which is ZEROFILL,"):
+        other = World(trial, "other", "-", table)
+        trial.check(f"by log, {line}", commands.run(*other.words(other.by)).why_not_stopped(line))
+    other = World(trial, "other", "-", "b.ok")
+    trial.check("by log, a purged log", commands.run(*other.words(other.by)).why_not_stopped("refused 159 file "))
+    for words in ["--from-snapshot"], ["--anew-behind"]:
+        trial.check(f"by log, {words}", None if commands.run(*other.words(other.by, *words)).status == 2 else "another status")
+    trial.server.sql("DROP DATABASE b; RESET MASTER; " + "".join(f"DROP DATABASE IF EXISTS {schema}; " for schema in SCHEMAS))
+
+
+def bylog(trial) -> None:
+    commands.command()
+    for step in loaded, killed, rotated, interrupted, waited, refused, altered:
+        step(trial)
