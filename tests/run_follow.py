@@ -7,7 +7,8 @@ A checkpoint that was moved on has to be, byte for byte, the one that is made fr
 it stood, one stream after another or in threads, in any portions. Its board's dump is the one that `run` prints. A file is
 replaced as a whole or not at all: after a refusal, where it can't be written, where its size is limited, where a call of
 the system fails and where the program is killed it is what it was before, or the whole new checkpoint; of two calls at a
-time, the one held before each call of the system (tests/hold_calls.c), neither undoes the other. `--save-to` never takes
+time, the one held before each call of the system (tests/hold_calls.c), neither undoes the other. Feeds that are compacted to their ends night
+after night, one of them killed before each call of the system, give the rows of all that was ever recorded. `--save-to` never takes
 the place of an input, a device, a pipe or a folder, and follows no link but that of its own name. By a clock that goes on
 each time it is read (tests/step_clock.c) it is known what a run tells of its way, into files and on terminals of two
 widths (tests/terminal.py). With --keeping what concerns files alone is tried; root tries that once more as another user. The last line is 'N passed, M failed': one a check.
@@ -147,6 +148,94 @@ def again_and_again(room, r):
     moved = room.get("kept")
     yield "ten nights, one group more in each", all(nights)
     yield "leave what one night leaves", room.follow() == (0, b"", b"") and room.get("kept") == moved
+
+
+# ---- nights: each stream's feed is compacted to its end, and then is what the target is
+
+
+def compacting(s, name, *words):
+    return ["compact", f"--stream={s}", f"--save-to={name}", *words, "workflow", name]
+
+
+def grow(room, before, after):
+    """Appends what is new to the streams' feeds, and to those that stay whole."""
+    for name, data in after.items():
+        for it in (name, f"whole_{name}"):
+            with open(room.path(it), "ab") as file:
+                file.write(data[len(before[name]) :])
+
+
+def is_as_whole(room):
+    """The feeds of both streams give the rows that those give which stayed whole, and are each what that one is compacted to."""
+    said, wanted = (room.run("run", "workflow", *names) for names in (("lower", "upper"), ("whole_lower", "whole_upper")))
+    each = [room.run("compact", f"--stream={s}", "workflow", f"whole_{name}") == (0, room.get(name), b"") for s, name in enumerate(("lower", "upper"))]
+    return said == wanted and wanted[0] == 0 and all(each)
+
+
+def nights(room, r):
+    feeds, lower, upper = two_feeds(r, 40), compacting(0, "lower"), compacting(1, "upper")
+    room.put(workflow=making.workflow("-80", "80-"), lower=b"", upper=b"", whole_lower=b"", whole_upper=b"")
+    alike, sizes = 0, []
+    for first in (0, 10, 20):
+        grow(room, feeds(first), feeds(first + 10))
+        alike += all(room.run(*it)[::2] == (0, b"") for it in (lower, upper)) and is_as_whole(room)
+        sizes += [len(room.get(name)) for name in ("lower", "upper")]
+    yield "three nights of two streams, each feed compacted for itself, leave the rows of all that was recorded", alike == 3
+    yield "in no more bytes than 24 rows have", max(sizes) < 24 * 40
+    yield "and nothing beside the feeds", not [it for it in os.listdir(room.place) if it.startswith(".")]
+    grow(room, feeds(30), feeds(40))
+    rows, before, count, right = room.run("run", "workflow", "whole_lower", "whole_upper"), b"", 0, 0
+    for name, words in (("lower", lower), ("upper", upper)):
+        before = room.get(name)
+        calls = calls_of(room, *words)
+        compacted = room.get(name)
+        for call in range(1, calls + 1):
+            room.put(**{name: before})
+            held_before(room, call, words, lambda ran: ran.kill())
+            right += room.get(name) in (before, compacted) and room.run("run", "workflow", "lower", "upper") == rows
+        room.put(**{name: compacted})
+        count += calls
+    yield f"a night killed before each of {count} calls of the system leaves the old feeds or the new ones, with the same rows", right == count
+    room.put(upper=before[:-1])
+    yield "a feed that a killed recording left amid a message is refused, and stays", room.run(*upper)[:2] == (1, b"") and room.get("upper") == before[:-1]
+    room.put(upper=before)
+    yield "and the next night does what is left", all(room.run(*it)[0] == 0 for it in (lower, upper)) and is_as_whole(room)
+
+
+def nights_with_a_checkpoint(room, r):
+    """Checkpoints of others go on, where they are named."""
+    feeds, done, alike = two_feeds(r, 30), (0, b"", b""), 0
+    whole = ["follow", "--save-to=wanted", "workflow", "whole_lower", "whole_upper"]
+    room.put(workflow=making.workflow("-80", "80-"), lower=b"", upper=b"", whole_lower=b"", whole_upper=b"")
+    assert room.follow() == done
+    for first in (0, 10, 20):
+        room.put(old=room.get("kept"))
+        grow(room, feeds(first), feeds(first + 10))
+        moved = room.follow("--checkpoint=kept") == room.run(*whole) == done and room.get("kept") == room.get("wanted")
+        alike += moved and all(room.run(*compacting(s, name, "--checkpoint=kept"))[0] == 0 for s, name in enumerate(("lower", "upper"))) and is_as_whole(room)
+    yield "three nights of follow and compact leave the checkpoint of all that was recorded", alike == 3
+    before = room.run("follow", "--checkpoint=old", "--save-to=old", "workflow", "lower", "upper")
+    yield "one that wasn't named is refused", before == (1, b"", b"refused 118 stream 0\n")
+    room.put(lower=feeds(30)["lower"], upper=feeds(30)["upper"])
+    named = [room.run(*compacting(s, name, "--checkpoint=kept", "--checkpoint=old"))[0] for s, name in enumerate(("lower", "upper"))]
+    moved = [room.run("follow", f"--checkpoint={it}", f"--save-to={it}", "workflow", "lower", "upper") for it in ("kept", "old")]
+    yield "two that are named go on, each from where it stands", named == [0, 0] and moved == [done, done] and room.get("kept") == room.get("old") == room.get("wanted")
+
+
+def nights_with_a_move(room, r):
+    """A row that left one stream for the other: a checkpoint goes there in steps, whose order it may be in the way of."""
+    first = {"lower": [making.added((1, b"a"))], "upper": [making.added((9, b"k"))]}
+    then = {"lower": [making.added((9, b"l"))], "upper": [[((9, b"k"), None)]]}
+    uuids, names = {"lower": making.U, "upper": making.V}, ["workflow", "lower", "upper"]
+    room.put(workflow=making.workflow("-80", "80-"), **{name: making.feed(groups, uuids[name]) for name, groups in first.items()})
+    assert room.follow() == (0, b"", b"") and all(room.run(*compacting(s, name))[0] == 0 for s, name in enumerate(("lower", "upper")))
+    for name, groups in then.items():
+        room.put(**{name: room.get(name) + making.feed(first[name] + groups, uuids[name])[len(making.feed(first[name], uuids[name])) :]})
+    clash = room.follow("--checkpoint=kept", "--alone")
+    yield "a row that moved between the streams may be in the way of follow", clash[0] == 1 and clash[2].startswith(b"refused 71 ")
+    assert all(room.run(*compacting(s, name))[0] == 0 for s, name in enumerate(("lower", "upper")))
+    wanted = b"table t\n" + b"".join(b"x%b\tx%b\n" % (key.hex().encode(), value.hex().encode()) for key, value in ((b"1", b"a"), (b"9", b"l")))
+    yield "and isn't in that of the night", all(room.run("run", *how, *names) == (0, wanted, b"") for how in ([], ["--alone"]))
 
 
 def only_some(room, r, rounds=20):
@@ -682,7 +771,8 @@ def of_listed_columns(room, r, rounds=10):
 
 
 KEEPING = (misnamed, kept_by_each, linked, rights, own_names, two_calls, failing_calls, killed_at_each)
-PARTS = (from_nothing, from_anywhere, again_and_again, only_some, up_to_positions, refused, cut_short, killed, *KEEPING, progress, on_a_terminal, alone_on_a_terminal, of_listed_columns)
+NIGHTS = (nights, nights_with_a_checkpoint, nights_with_a_move)
+PARTS = (from_nothing, from_anywhere, again_and_again, only_some, up_to_positions, refused, cut_short, killed, *KEEPING, progress, on_a_terminal, alone_on_a_terminal, of_listed_columns, *NIGHTS)
 NOBODY = 65534
 
 

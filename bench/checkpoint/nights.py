@@ -1,13 +1,16 @@
 #!/usr/bin/env python3
-"""Measures nights: a feed grows, a checkpoint is moved on by `vrepl follow`, and the feed is compacted up to it.
+"""Measures nights: a feed grows, and `vrepl compact` puts one group with its rows in the place of all that it has.
 
 usage: bench/checkpoint/nights.py PROGRAM [NIGHTS [MEGABYTES [NIGHTLY]]]       30 nights, 200 and 1 if not given
 
 The feed has so many megabytes of rows of 500 bytes, a thousand a group, and each night one more of changes, four a group: most are
-updates, and as many rows come as go. Each line is of one night: the feed's bytes before and behind its compaction; the processor
-time and the peak memory of `follow`, of `compact`, and of `run` over the feed that the two read, which is run in these nights
-alone. The last line is the least and the most of all nights. It ends where the compacted feed's rows, or the checkpoint's, aren't those of all that was ever in the feed.
+updates, and as many rows come as go. A night is `compact`, into the feed's own file. Beside it stands `run` over the feed that it reads,
+into a file of the same folder. Each line is of one night: the feed's bytes before and behind its compaction, and the processor time and
+the peak memory of both; the last line is the least and the most of all nights. It ends where a compacted feed has more than the bytes of
+its rows and 65,536; where in a night that has a line `run` over it prints other rows than over the feed before; and where the last one's
+rows aren't those of all that was ever recorded.
 """
+import filecmp
 import os
 import random
 import sys
@@ -24,6 +27,8 @@ WORKFLOW = """{"keyspace": "k", "tables": [{"name": "t", "columns": [["id", "INT
 SHOWN = 10
 """Each night of this number, and the first, has a line."""
 SIZE, A_GROUP, CHANGED = 500, 1000, 4
+BOUND = 65_536
+"""So many bytes a compacted feed may have beside its rows."""
 
 
 class Source:
@@ -31,9 +36,16 @@ class Source:
 
     def __init__(self):
         self.random, self.group, self.rows, self.first = random.Random(30), 0, {}, 0
+        self.size = 0
+        """The bytes of the changes that would insert its rows."""
 
     def row(self, key):
         return row_bytes((b"%d" % key, self.rows[key]))
+
+    def change_of(self, before, after):
+        for sign, row in ((-1, before), (1, after)):
+            self.size += sign * len(change_bytes(None, row)) if row else 0
+        return change_bytes(before, after)
 
     def change(self):
         """One row's change: of ten one comes, one goes, and the others are updated."""
@@ -47,9 +59,9 @@ class Source:
             before = self.row(key)
         if way == 1:
             del self.rows[key]
-            return change_bytes(before, None)
+            return self.change_of(before, None)
         self.rows[key] = self.random.randbytes(SIZE)
-        return change_bytes(before, self.row(key))
+        return self.change_of(before, self.row(key))
 
     def message(self, changes, *fields):
         self.group += 1
@@ -63,7 +75,7 @@ class Source:
         while len(self.rows) * SIZE < size:
             keys = range(len(self.rows), len(self.rows) + A_GROUP)
             self.rows |= {key: self.random.randbytes(SIZE) for key in keys}
-            yield self.message([change_bytes(None, self.row(key)) for key in keys], *field)
+            yield self.message([self.change_of(None, self.row(key)) for key in keys], *field)
             field = []
 
     def night(self, size):
@@ -89,26 +101,27 @@ def append(data, *names):
 
 
 def measure(program, nights, size, nightly, path):
-    workflow, feed, whole, saved, out = map(path, ("workflow", "feed", "whole", "saved", "out"))
+    workflow, feed, whole, ran, ran_whole = map(path, ("workflow", "feed", "whole", "ran", "ran_whole"))
     with open(workflow, "w", encoding="utf-8") as file:
         file.write(WORKFLOW)
     source, seen = Source(), []
     append(source.first_rows(size), feed, whole)
-    timed([program, "follow", "--save-to", saved, workflow, feed], os.devnull, out)
-    print("| Night | The feed's bytes | Compacted | `follow` | `compact` | `run` over the feed | Peak memory of `follow` / `compact` / `run` |")
-    print("|---|---|---|---|---|---|---|", flush=True)
+    print("| Night | The feed's bytes | Compacted | `compact` | `run` over the feed | Peak memory of `compact` / `run` |")
+    print("|---|---|---|---|---|---|", flush=True)
     for night in range(1, nights + 1):
         append(source.night(nightly), feed, whole)
         before = os.path.getsize(feed)
-        is_shown = night == 1 or night % SHOWN == 0
-        ran = timed([program, "run", workflow, feed], os.devnull, path("run")) if is_shown else None
-        followed = timed([program, "follow", "--checkpoint", saved, "--save-to", saved, workflow, feed], os.devnull, out)
-        compacted = timed([program, "compact", "--checkpoint", saved, "--save-to", feed, workflow, feed], os.devnull, out)
-        seen.append((before, os.path.getsize(feed), followed, compacted, ran))
-        if is_shown:
+        run = timed([program, "run", workflow, feed], os.devnull, ran)
+        compacted = timed([program, "compact", "--save-to", feed, workflow, feed], os.devnull, os.devnull)
+        seen.append((before, os.path.getsize(feed), compacted, run))
+        if seen[-1][1] > source.size + BOUND:
+            sys.exit(f"the compacted feed has {seen[-1][1]} bytes, and its rows {source.size}")
+        if night == 1 or night % SHOWN == 0:
+            check(program, workflow, feed, ran, path)
             line(f"{night}", [seen[-1]])
     line("all", seen)
-    check(program, workflow, [feed, whole], saved, path)
+    timed([program, "run", workflow, whole], os.devnull, ran_whole)
+    check(program, workflow, feed, ran_whole, path)
 
 
 def line(night, seen):
@@ -117,26 +130,16 @@ def line(night, seen):
         return least if least == most else f"{least} to {most}"
 
     sizes = [spread([one[at] for one in seen], lambda it: f"{it:,}") for at in (0, 1)]
-    used = [[one[at] for one in seen if one[at]] for at in (2, 3, 4)]
+    used = [[one[at] for one in seen] for at in (2, 3)]
     times = [spread([seconds for seconds, _ in of], lambda it: f"{it:.2f}") + " s" for of in used]
     peaks = " / ".join(f"{max(memory for _, memory in of) / 1e6:.0f}" for of in used)
     print("| " + " | ".join([night, *sizes, *times, f"{peaks} MB"]) + " |", flush=True)
 
 
-def check(program, workflow, feeds, saved, path):
-    """Ends where the rows differ of the feeds, or of the checkpoint over each."""
-    with open(path("dump"), "w", encoding="utf-8") as file:
-        file.write("dump\n")
-    dumps = []
-    for at, feed in enumerate(feeds):
-        dumps += [path(f"run{at}"), path(f"resume{at}")]
-        timed([program, "run", workflow, feed], os.devnull, dumps[-2])
-        timed([program, "resume", "--checkpoint", saved, workflow, feed], path("dump"), dumps[-1])
-    said = []
-    for dump in dumps:
-        with open(dump, "rb") as file:
-            said.append(file.read())
-    if len(set(said)) > 1 or said[0].count(b"\n") < 2:
+def check(program, workflow, feed, wanted, path):
+    """Ends where `run` over the feed doesn't print the rows that a file has."""
+    timed([program, "run", workflow, feed], os.devnull, path("dump"))
+    if not filecmp.cmp(path("dump"), wanted, shallow=False) or os.path.getsize(wanted) < SIZE:
         sys.exit("the rows differ")
 
 
