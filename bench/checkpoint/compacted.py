@@ -58,7 +58,7 @@ def of_rows(folder, megabytes):
 def line_of(program, name, words, new):
     run, compact = [program, "run", "--quiet", *words], [program, "compact", "--quiet", "--save-to", new, *words]
     counts = counted(run), counted(compact)
-    peaks = [nights.timed(it, os.devnull, os.devnull)[1] for it in (run, compact)]
+    peaks = [nights.timed(it, os.devnull)[1] for it in (run, compact)]
     sizes = [f"{os.path.getsize(it):,}" for it in (words[1], new)]
     times = [f"{counts[0]:.1f}", f"{counts[1]:.1f}", f"{counts[1] / counts[0]:.2f}"]
     return [name, *sizes, *times, " / ".join(f"{it / 1e6:.1f}" for it in peaks) + " MB"]

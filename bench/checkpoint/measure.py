@@ -2,6 +2,7 @@
 """Measures `vrepl save` and `vrepl resume` over feeds of some numbers of rows, and prints a table.
 
 usage: bench/checkpoint/measure.py PROGRAM [ROWS..]          250,000, 500,000 and 1,000,000 if not given
+       bench/checkpoint/measure.py --timed OUT COMMAND..    the processor time and the peak memory of a command alone
 
 Feeds are made by bench/feed/make_feed.py, ten rows a group, scripts by bench/step/make_script.py, and both are kept
 in /tmp/vrepl_checkpoint. Each line: the rows, the bytes of the feed and of the checkpoint; then the processor time of
@@ -78,6 +79,9 @@ def measure(program, rows):
 
 
 def main():
+    if sys.argv[1] == "--timed":
+        print(*timed(sys.argv[3:], os.devnull, sys.argv[2]))
+        return
     os.makedirs(FOLDER, exist_ok=True)
     print("| Rows | The feed | The checkpoint | `step` | `save` | `resume` | `resume` with a dump | Peak memory of `step` / `save` / `resume` |")
     print("|---|---|---|---|---|---|---|---|")

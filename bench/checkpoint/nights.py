@@ -13,13 +13,14 @@ rows aren't those of all that was ever recorded.
 import filecmp
 import os
 import random
+import subprocess
 import sys
 import tempfile
 
 sys.dont_write_bytecode = True
 HERE = os.path.dirname(os.path.abspath(__file__))
 sys.path[:0] = [HERE, os.path.join(HERE, "../../record")]
-from measure import timed  # noqa: E402
+import measure as measuring  # noqa: E402
 from recorder.wire import FIELDS, GTID, ROWS, EventType, change_bytes, columns_bytes, event_bytes, message_bytes, row_bytes, text_bytes  # noqa: E402
 
 WORKFLOW = """{"keyspace": "k", "tables": [{"name": "t", "columns": [["id", "INT64"], ["v", "VARBINARY"]], "key": ["id"]}],
@@ -93,6 +94,14 @@ def main():
         measure(program, nights, megabytes * 10**6, nightly * 10**6, lambda name: os.path.join(folder, name))
 
 
+def timed(words, out):
+    """Seconds of the processor, and the peak memory in bytes. They are taken by a process of its own: a peak is never below the memory
+    of the process that began the other one, and this one has the rows."""
+    child = subprocess.run([sys.executable, measuring.__file__, "--timed", out, *words], stdin=subprocess.DEVNULL, stdout=subprocess.PIPE, check=True)
+    seconds, memory = child.stdout.split()
+    return float(seconds), int(memory)
+
+
 def append(data, *names):
     data = b"".join(data)
     for name in names:
@@ -111,8 +120,8 @@ def measure(program, nights, size, nightly, path):
     for night in range(1, nights + 1):
         append(source.night(nightly), feed, whole)
         before = os.path.getsize(feed)
-        run = timed([program, "run", workflow, feed], os.devnull, ran)
-        compacted = timed([program, "compact", "--save-to", feed, workflow, feed], os.devnull, os.devnull)
+        run = timed([program, "run", workflow, feed], ran)
+        compacted = timed([program, "compact", "--save-to", feed, workflow, feed], os.devnull)
         seen.append((before, os.path.getsize(feed), compacted, run))
         if seen[-1][1] > source.size + BOUND:
             sys.exit(f"the compacted feed has {seen[-1][1]} bytes, and its rows {source.size}")
@@ -120,7 +129,7 @@ def measure(program, nights, size, nightly, path):
             check(program, workflow, feed, ran, path)
             line(f"{night}", [seen[-1]])
     line("all", seen)
-    timed([program, "run", workflow, whole], os.devnull, ran_whole)
+    timed([program, "run", workflow, whole], ran_whole)
     check(program, workflow, feed, ran_whole, path)
 
 
@@ -138,7 +147,7 @@ def line(night, seen):
 
 def check(program, workflow, feed, wanted, path):
     """Ends where `run` over the feed doesn't print the rows that a file has."""
-    timed([program, "run", workflow, feed], os.devnull, path("dump"))
+    timed([program, "run", workflow, feed], path("dump"))
     if not filecmp.cmp(path("dump"), wanted, shallow=False) or os.path.getsize(wanted) < SIZE:
         sys.exit("the rows differ")
 
