@@ -1,11 +1,12 @@
--- The check over bytes one after another, and the table of it.
-use Rattle.std.proofs.Common.{◌≡◌, ◌≢◌, ℕ, ◌+◌, ◌-◌, ◌<◌, ◌≤◌, ◌%◌, ◌/◌, List, [], ◌∷◌, ◌++◌, length, get_or, take, drop, eqb, true, false, refl, sym, ap, ◌∙◌, inl, inr, arith}
+-- The check over bytes one after another, and that of an event.
+use Rattle.std.proofs.Common.{◌≡◌, ◌≢◌, ℕ, ◌+◌, ◌-◌, ◌<◌, ◌≤◌, ◌%◌, ◌/◌, ◌^◌, List, [], ◌∷◌, ◌++◌, length, get_or, take, drop, eqb, true, false, refl, sym, ap, ap₂, ◌∙◌, arith}
 use Rattle.std.specs.Prelude.{bit_xor}
-use Rattle.std.proofs.lemmas.Bool.{cases_lt, eq-eqb, ne_eqb}
-use Rattle.std.proofs.lemmas.List.{take_all, drop_all, append-nil, drop_more, get_or_append_left, get_or_push, length_push}
+use Rattle.std.proofs.lemmas.Bool.{eq-eqb, ne_eqb}
+use Rattle.std.proofs.lemmas.List.{take_all, drop_all, append-nil, drop_more, take-append-drop}
 use Rattle.log_events.specs.Number.{number}
-use Rattle.log_events.specs.Crc.{crc_entry, crc_byte, crc_from, crc32, IsTable}
+use Rattle.log_events.specs.Crc.{crc_ahead, crc_byte, crc_from, crc32}
 use Rattle.log_events.specs.Event.{without_first, settled}
+use Rattle.log_events.proofs.CrcAhead.{eight_ahead}
 
 -- a remainder over two parts
 pub crc_from-append : (c : ℕ) (xs ys : List ℕ) → crc_from c (xs ++ ys) ≡ crc_from (crc_from c xs) ys
@@ -22,37 +23,39 @@ pub crc_from-first : (c b : ℕ) (bytes : List ℕ) → crc_from c (b ∷ bytes)
 unfolding crc_from
 crc_from-first c b bytes = refl
 
+-- over bytes that are cut in two
+pub crc_from-cut : (c n : ℕ) (bytes front back : List ℕ) → front ≡ take n bytes → back ≡ drop n bytes → crc_from (crc_from c front) back ≡ crc_from c bytes
+crc_from-cut c n bytes front back left right =
+    sym (crc_from-append c front back) ∙ ap (crc_from c) (ap₂ (λ (xs ys : List ℕ). xs ++ ys) left right ∙ take-append-drop n bytes)
+
+eight_of : (bytes : List ℕ) → length bytes ≡ 8
+    → bytes ≡ get_or bytes 0 0 ∷ get_or bytes 1 0 ∷ get_or bytes 2 0 ∷ get_or bytes 3 0 ∷ get_or bytes 4 0 ∷ get_or bytes 5 0 ∷ get_or bytes 6 0 ∷ get_or bytes 7 0 ∷ []
+eight_of bytes long =
+    let more : (i : ℕ) → i < 8 → drop i bytes ≡ get_or bytes i 0 ∷ drop (i + 1) bytes = λ i less. drop_more bytes i 0 (omega (arith, long)) in
+    let none : drop 8 bytes ≡ [] = drop_all 8 bytes (omega (arith, long)) in
+    let first : (i : ℕ) → List ℕ → List ℕ = λ i rest. get_or bytes i 0 ∷ rest in
+    more 0 (omega arith) ∙ ap (first 0) (more 1 (omega arith) ∙ ap (first 1) (more 2 (omega arith) ∙ ap (first 2) (more 3 (omega arith) ∙ ap (first 3) (more 4 (omega arith)
+    ∙ ap (first 4) (more 5 (omega arith) ∙ ap (first 5) (more 6 (omega arith) ∙ ap (first 6) (more 7 (omega arith) ∙ ap (first 7) none)))))))
+
+-- eight bytes by the table
+pub eight_told : (s : ℕ) (bytes : List ℕ) (a b c d e f g h : ℕ) → s < 2 ^ 32 → length bytes ≡ 8 → ((i : ℕ) → get_or bytes i 0 < 256)
+    → a ≡ get_or bytes 0 0 → b ≡ get_or bytes 1 0 → c ≡ get_or bytes 2 0 → d ≡ get_or bytes 3 0 → e ≡ get_or bytes 4 0 → f ≡ get_or bytes 5 0 → g ≡ get_or bytes 6 0 → h ≡ get_or bytes 7 0
+    → bit_xor (crc_ahead 4 (crc_from 0 (bit_xor s a % 256 ∷ bit_xor (s / 256) b % 256 ∷ bit_xor (s / 256 / 256) c % 256 ∷ bit_xor (s / 256 / 256 / 256) d % 256 ∷ [])))
+    (crc_ahead 0 (crc_from 0 (e ∷ f ∷ g ∷ h ∷ []))) ≡ crc_from s bytes
+eight_told s bytes a b c d e f g h less long each a_is b_is c_is d_is e_is f_is g_is h_is =
+    rw (a_is, b_is, c_is, d_is, e_is, f_is, g_is, h_is)
+    (eight_ahead s _ _ _ _ _ _ _ _ less (each 0) (each 1) (each 2) (each 3) (each 4) (each 5) (each 6) (each 7) ∙ ap (crc_from s) (sym (eight_of bytes long)))
+
 -- a byte by the table
-pub by_table : (entries : List ℕ) → IsTable entries → (c b n : ℕ) → n ≡ bit_xor c b % 256 → bit_xor (get_or entries n 0) (c / 256) ≡ crc_byte c b
-unfolding crc_byte
-by_table entries h c b n e =
-    let below : n < 256 = omega arith in
-    ap (λ (x : ℕ). bit_xor x (c / 256)) (h.each n below ∙ ap crc_entry e)
+pub by_table : (x c b : ℕ) → x ≡ crc_ahead 1 (bit_xor c b % 256) → bit_xor x (c / 256) ≡ crc_byte c b
+unfolding crc_ahead crc_byte
+by_table x c b e = ap (λ (n : ℕ). bit_xor n (c / 256)) e
 
 -- one turn of the loop over bytes
 pub crc_turn : (bytes : List ℕ) (i c b : ℕ) → i < length bytes → b ≡ get_or bytes i 0 → crc_from c (drop i bytes) ≡ crc_from (crc_byte c b) (drop (i + 1) bytes)
 crc_turn bytes i c b less is =
     let parts : drop i bytes ≡ b ∷ drop (i + 1) bytes = drop_more bytes i 0 less ∙ ap (λ (x : ℕ). x ∷ drop (i + 1) bytes) (sym is) in
     ap (crc_from c) parts ∙ crc_from-first c b (drop (i + 1) bytes)
-
--- a table of the first n bytes
-pub record IsFront (entries : List ℕ) (n : ℕ) : Type 0 where
-  pub long : length entries ≡ n
-  pub each : (k : ℕ) → k < n → get_or entries k 0 ≡ crc_entry k
-
-pub front_more : (entries : List ℕ) (n x : ℕ) → IsFront entries n → x ≡ crc_entry n → IsFront (entries ++ x ∷ []) (n + 1)
-front_more entries n x h is = record {
-  long = length_push entries x ∙ ap (λ (k : ℕ). k + 1) h.long;
-  each = λ k less. elim (cases_lt k n) [
-    | inl lt ↦ get_or_append_left entries (x ∷ []) 0 k (omega (arith, h.long)) ∙ h.each k lt
-    | inr le ↦
-        let same : k ≡ n = omega arith in
-        rw same (get_or_push entries x 0 n h.long ∙ is)
-  ];
-}
-
-pub front_all : (entries : List ℕ) → IsFront entries 256 → IsTable entries
-front_all entries h = record { long = h.long; each = h.each }
 
 -- ---- the check of an event
 

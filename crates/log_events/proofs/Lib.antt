@@ -1,4 +1,5 @@
 pub mod NumberLaws
+pub mod CrcAhead
 pub mod CrcLaws
 pub mod EventLaws
 pub mod LogLaws

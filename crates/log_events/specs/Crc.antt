@@ -1,5 +1,5 @@
 -- The cyclic redundancy check of 32 bits (RFC 1952, section 8).
-use Rattle.std.specs.Prelude.{◌≡◌, ℕ, ◌/◌, ◌%◌, ◌<◌, ◌==◌, if◌then◌else◌, List, [], ◌∷◌, length, slice_index, bit_xor}
+use Rattle.std.specs.Prelude.{◌≡◌, ℕ, zero, suc, ◌+◌, ◌/◌, ◌%◌, ◌<◌, ◌==◌, if◌then◌else◌, List, [], ◌∷◌, length, slice_index, bit_xor}
 
 -- a remainder one bit on
 unfoldable pub crc_bit : ℕ → ℕ
@@ -22,7 +22,12 @@ crc_from c (b ∷ bytes) = crc_from (crc_byte c b) bytes
 unfoldable pub crc32 : List ℕ → ℕ
 crc32 bytes = bit_xor (crc_from 0xffffffff bytes) 0xffffffff
 
--- a list has the remainder of each byte at its place
+-- a remainder so many bytes of zero on
+unfoldable pub crc_ahead : ℕ → ℕ → ℕ
+crc_ahead zero c = c
+crc_ahead (suc n) c = crc_entry (crc_ahead n c)
+
+-- a list has in its first 256 places the remainder of each byte one byte on, in the next 256 two bytes on, and so up to eight
 pub record IsTable (entries : List ℕ) : Type 0 where
-  pub long : length entries ≡ 256
-  pub each : (n : ℕ) → n < 256 → slice_index entries n ≡ crc_entry n
+  pub long : length entries ≡ 2048
+  pub each : (n : ℕ) → n < 2048 → slice_index entries n ≡ crc_ahead (n / 256 + 1) (n % 256)

@@ -1,5 +1,5 @@
-use Rattle.log_events.proofs.CrcLaws.{IsFront}
+use Rattle.log_events.proofs.CrcAhead.{IsFront}
 use Rattle.log_events.proofs.crc.CrcTable.new.Given as goal
 
-abbrev pub invariant-loop-byte : goal.invariant-loop-byte
-invariant-loop-byte l = IsFront l.entries.items l.byte
+abbrev pub invariant-loop-place : goal.invariant-loop-place
+invariant-loop-place l = IsFront l.entries.items l.place
