@@ -1,6 +1,6 @@
 //! A row.
 
-ghost use Rattle.std.specs.Prelude.{◌≡◌, ◌<◌, ◌^◌, map};
+ghost use Rattle.std.specs.Prelude.{◌≡◌, map};
 ghost use Rattle.std.specs.Result.{result_map_both};
 ghost use Rattle.log_tables.specs.Column.{column_value};
 ghost use Rattle.log_rows.specs.Image.{bit_of, bits_size, cells_at, image_at};
@@ -12,20 +12,12 @@ use crate::row::WrittenCells;
 use log_tables::LogColumn;
 use log_values::ValueFault;
 
-/// The number that a bit of a byte counts, the lowest first.
-fn weight_of(place: usize) -> u8
-    requires { place < 8 }
-    ensures { result ≡ 2 ^ place }
-{
-    2u8.pow(place as u32)
-}
-
 /// A bit of some bytes; one that isn't there is 0.
 pub(crate) fn bit_of(bits: &[u8], place: usize) -> bool
     ensures { result ≡ bit_of bits.now place }
 {
     match bits.get(place / 8) {
-        Some(byte) => *byte / weight_of(place % 8) % 2 == 1,
+        Some(byte) => (*byte >> (place % 8)) % 2 == 1,
         None => false,
     }
 }
