@@ -6,9 +6,10 @@ usage: tests/run_transcribe.py PROGRAM [--seconds N] [--seed N]
 
 Of each case (tests/model/binlog.py): `vrepl transcribe` writes the feed of the workflow's tables, byte for byte, on standard
 output and with --save-to into a file; the transactions are plain ones, rolled back, with savepoints, of other engines, XA, and
-statements, over one to three files. Cut anywhere, the last file is refused 141, 156 or as no log, by its name and a byte that
-is there; one that a server still writes gives the beginning of the feed. With a bit turned a file with checks is refused at
-the event that has the bit, or the feed is the same, or shorter where its server still writes the file. Files in another order are refused 159, or the feed's first one is missing;
+statements, over one to three files; an XA transaction may end in a later file than that in which it is prepared. Cut anywhere,
+the last file is refused 141, 156 or as no log, by its name and a byte that is there; one that a server still writes gives the
+beginning of the feed. With a bit turned a file with checks is refused at the event that has the bit, or the feed is the same, or
+shorter where its server still writes the file. Files in another order are refused 159, or the feed's first one is missing;
 a workflow with another type or another number of columns is refused where the table has rows, by its name, at the byte of a
 transaction. Behind the feed of the logs up to a transaction, for each of them, `--after` writes the rest of the whole feed's
 messages, of all logs or of those from that one's file on; behind the whole feed it writes nothing; where a table that is made in
@@ -184,7 +185,7 @@ class Trial:
             status, front, line = self.made(part)
             if status:
                 # an XA transaction is left prepared there
-                wants(b"refused 156 file part " in line and not front, ("part", file, byte, line))
+                wants(line == b"refused 156 file part byte %d\n" % byte and not front, ("part", file, byte, line))
                 continue
             ran = self.after(front, self.names)
             wants(ran[0] == 0 and not ran[2] and joined(front, ran[1]) == whole, ("after", file, byte, front, ran, whole))

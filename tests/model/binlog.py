@@ -146,8 +146,8 @@ class History:
                 self.make_tables()
             for _ in range(r.randrange(6)):
                 self.transaction()
-            for xid in list(self.waiting):
-                self.end_xa(xid)
+            if place == files - 1 or r.random() < 0.3:
+                self.end_all()
             if place < files - 1:
                 self.log.put(ROTATE, struct.pack("<Q", 4) + b"binlog.00000%d" % (place + 2))
             self.logs.append(self.log)
@@ -270,17 +270,23 @@ class History:
             self.begin(ALONE)
             self.log.query(r.choice([b"flush tables", b"GRANT SELECT ON *.* TO x@y", b"analyze table t", b"create table third (id int)"]), b"elsewhere")
             self.tell([])
-        elif way < 0.9 and not self.waiting:
-            xid = b"x%d" % r.randrange(1000)
+        elif way < 0.9 and len(self.waiting) < 3:
+            xid = r.choice([xid for xid in (b"x", b"y", b"xy", b"z") if xid not in self.waiting])
             self.begin(PREPARES, xid)
             self.waiting[xid] = self.changes()
             self.log.query(b"XA END X'" + xid.hex().encode() + b"',X'',1")
             self.log.put(XA_PREPARE, struct.pack("<BIII", 0, 1, len(xid), 0) + xid)
             self.tell([])
         elif self.waiting:
-            self.end_xa(next(iter(self.waiting)))
+            self.end_xa(r.choice(list(self.waiting)))
+
+    def end_all(self) -> None:
+        while self.waiting:
+            self.end_xa(self.r.choice(list(self.waiting)))
 
     def end_xa(self, xid: bytes) -> None:
+        """Of an XA transaction that is prepared: its commit, or its rollback."""
         self.begin(ALONE | ENDS, xid)
-        self.log.query(b"XA COMMIT X'" + xid.hex().encode() + b"',X'',1")
-        self.tell(self.waiting.pop(xid))
+        back, changes = self.r.random() < 0.3, self.waiting.pop(xid)
+        self.log.query((b"XA ROLLBACK X'" if back else b"XA COMMIT X'") + xid.hex().encode() + b"',X'',1")
+        self.tell([] if back else changes)

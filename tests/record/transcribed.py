@@ -75,8 +75,41 @@ def collated(trial) -> None:
     trial.server.sql(f"DROP DATABASE {SCHEMA}; RESET MASTER")
 
 
+XA_FILES = [
+    "CREATE TABLE {0}.t (id INT PRIMARY KEY, v VARCHAR(9)); INSERT INTO {0}.t VALUES (1, 'a'), (2, 'b'); "
+    "XA START 'x'; INSERT INTO {0}.t VALUES (3, 'x'); DELETE FROM {0}.t WHERE id = 1; XA END 'x'; XA PREPARE 'x'",
+    "INSERT INTO {0}.t VALUES (4, 'c'); XA START 'y','b',7; INSERT INTO {0}.t VALUES (5, 'y'); XA END 'y','b',7; XA PREPARE 'y','b',7",
+    "XA START 'z'; INSERT INTO {0}.t VALUES (6, 'z'); XA END 'z'; XA COMMIT 'z' ONE PHASE; INSERT INTO {0}.t VALUES (7, 'd')",
+    "XA ROLLBACK 'y','b',7; INSERT INTO {0}.t VALUES (8, 'e')",
+    "XA COMMIT 'x'; UPDATE {0}.t SET v = 'f' WHERE id = 2",
+]
+"""Statements of which each begins a file of the log: XA transactions are prepared in one and end in a later one."""
+
+
+def over_files(trial) -> None:
+    """An XA transaction that is prepared in one file of the log and ends in another; before its end the logs are refused."""
+    trial.server.sql(f"CREATE DATABASE {SCHEMA}; RESET MASTER")
+    workflow, words = None, ("--shard", "-", "--schema", SCHEMA)
+    for number, statements in enumerate(XA_FILES):
+        trial.server.sql(("FLUSH BINARY LOGS; " if number else "") + statements.format(SCHEMA))
+        workflow = workflow or trial.workflow("xa.json", ["-"], [f"{SCHEMA}.t"])
+        logs = log_files(trial)
+        done = trial.run(trial.program, "transcribe", *words, workflow, *logs)
+        line = f"refused 156 file {logs[-1]} byte {os.path.getsize(logs[-1])}\n".encode()
+        is_last = number == len(XA_FILES) - 1
+        trial.check(f"XA over {number + 1} files", None if is_last or (done.returncode, done.stdout, done.stderr) == (1, b"", line) else repr(done))
+    feed, by_log, made = trial.path("xa.feed"), trial.path("xa_bylog.feed"), trial.path("xa_made.feed")
+    trial.recorded("--shard", "-", "--keyspace", "ks", "--out", feed, f"{SCHEMA}.t")
+    trial.recorded("--shard", "-", "--keyspace", "ks", "--by-log", "--program", trial.program, "--out", by_log, f"{SCHEMA}.t")
+    trial.made(trial.program, "transcribe", "--save-to", made, *words, workflow, *logs)
+    shown = [trial.made(trial.program, "show", "--keyspace", "ks", "--shard", "-", of) for of in (feed, by_log, made)]
+    trial.check("XA over files, as recorded", None if shown[0] == shown[1] == shown[2] else repr(shown))
+    trial.same("XA over files, as the server has", trial.made(trial.program, "run", workflow, made), trial.selected(workflow, SCHEMA), 6)
+    trial.server.sql(f"DROP DATABASE {SCHEMA}; RESET MASTER")
+
+
 def transcribed(trial) -> None:
-    """Five checks a batch, and one of all collations."""
+    """Five checks a batch, one of all collations, and seven of XA transactions."""
     for begin in range(0, ROUNDS, BATCH):
         r = random.Random(f"transcribed {begin}")
         labels = begin // BATCH % 2 == 0
@@ -101,3 +134,4 @@ def transcribed(trial) -> None:
         trial.check(f"transcribed {begin} up to the same position", repr(ends) if len(ends) > 1 else None)
         trial.server.sql(f"DROP DATABASE {SCHEMA}; RESET MASTER; SET GLOBAL binlog_row_metadata=FULL, log_bin_compress=0")
     collated(trial)
+    over_files(trial)

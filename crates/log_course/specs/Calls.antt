@@ -5,30 +5,36 @@ use Rattle.gtid_set.specs.declared.interval.Interval.{Interval}
 use Rattle.log_groups.specs.declared.fault.GroupError as group_error
 use Rattle.log_groups.specs.declared.fault.GroupError.TheVariants as group_errors
 use Rattle.log_groups.specs.Transaction.{done_value}
-use Rattle.log_groups.specs.Group.{GroupValue}
+use Rattle.log_groups.specs.Group.{GroupValue, WaitingValue}
 use Rattle.log_places.specs.Place.{position_behind}
 use Rattle.log_course.specs.declared.fault.CourseFault.{CourseFault}
 use Rattle.log_course.specs.declared.fault.CourseError.{CourseError}
 use Rattle.log_course.specs.declared.fault.CourseError.TheVariants.{Memory, Fault}
 use Rattle.log_course.specs.declared.groups.PlacedGroup as placed_group
 use Rattle.log_course.specs.Fault.{of_place}
-use Rattle.log_course.specs.Course.{PlacedValue, end_of}
+use Rattle.log_course.specs.Course.{PlacedValue, CourseRead, end_of}
 
 -- how a group of the program is seen
 abbrev pub placed_value : placed_group.PlacedGroup → PlacedValue
 placed_value g = record { position = g.position; changes = map done_value g.changes.items }
 
--- a log of the program: the position that was reached, the groups still to come, and how many of its bytes aren't read yet
+-- a log of the program: the position that was reached, the groups still to come, what waits where they end, and how many of
+-- its bytes aren't read yet
 pub record CourseValue : Type 0 where
   pub reached : List Interval
   pub groups : Reading PlacedValue CourseFault
+  pub waiting : List WaitingValue
   pub left : ℕ
 
--- The next group is taken off the front, and the position behind it is reached. At the end neither changes. Behind a fault
--- nothing is told of what is still to come.
+-- its groups and what waits where they end
+abbrev pub read_of : CourseValue → CourseRead
+read_of a = record { groups = a.groups; waiting = a.waiting }
+
+-- The next group is taken off the front, and the position behind it is reached. At the end neither changes. What waits at the
+-- end stays the same. Behind a fault nothing is told of what is still to come.
 abbrev pub NextPlaced : CourseValue → Result (Option PlacedValue) CourseError → CourseValue → Type 0
-NextPlaced old (Ok (Some g)) new = (old.groups.items ≡ g ∷ new.groups.items) × (old.groups.fault ≡ new.groups.fault) × (new.reached ≡ g.position)
-NextPlaced old (Ok None) new = (old.groups.items ≡ []) × (old.groups.fault ≡ None) × (new.groups ≡ old.groups) × (new.reached ≡ old.reached)
+NextPlaced old (Ok (Some g)) new = (old.groups.items ≡ g ∷ new.groups.items) × (old.groups.fault ≡ new.groups.fault) × (new.reached ≡ g.position) × (new.waiting ≡ old.waiting)
+NextPlaced old (Ok None) new = (old.groups.items ≡ []) × (old.groups.fault ≡ None) × (new.groups ≡ old.groups) × (new.reached ≡ old.reached) × (new.waiting ≡ old.waiting)
 NextPlaced old (Err Memory) new = Unit {0}
 NextPlaced old (Err (Fault fault)) new = (old.groups.items ≡ []) × (old.groups.fault ≡ Some fault)
 

@@ -12,7 +12,7 @@ use Rattle.log_groups.specs.declared.fault.GroupFault.{GroupFault}
 use Rattle.log_groups.specs.declared.fault.GroupFault.TheVariants.{Event, Unended}
 use Rattle.log_groups.specs.Step.{steps_of}
 use Rattle.log_groups.specs.Transaction.{DoneValue, TransactionValue, AreTransactions, transactions_of}
-use Rattle.log_groups.specs.Group.{GroupValue, groups_of}
+use Rattle.log_groups.specs.Group.{GroupValue, WaitingValue, GroupsRead, groups_behind}
 use Rattle.log_places.specs.declared.fault.PlaceFault.{PlaceFault}
 use Rattle.log_places.specs.declared.fault.PlaceFault.TheVariants.{NoList}
 use Rattle.log_places.specs.Place.{position_behind, goes_on}
@@ -51,9 +51,17 @@ end_of in_use (Some fault) = if in_use && is_inside fault then None else Some (G
 abbrev pub placed_behind : List Interval → Bool → Reading GroupValue GroupFault → Reading PlacedValue CourseFault
 placed_behind reached in_use r = placed reached r.items (end_of in_use r.fault)
 
--- the groups of a log behind a position that was reached
-abbrev pub placed_of : List Interval → LogValue → Reading PlacedValue CourseFault
-placed_of reached log = placed_behind reached log.in_use (groups_of (transactions_of (steps_of log.events)))
+-- a log's groups, each with the position behind it, and the XA transactions that wait where they end
+pub record CourseRead : Type 0 where
+  pub groups : Reading PlacedValue CourseFault
+  pub waiting : List WaitingValue
+
+abbrev pub course_behind : List Interval → Bool → GroupsRead → CourseRead
+course_behind reached in_use g = record { groups = placed_behind reached in_use g.reading; waiting = g.waiting }
+
+-- those of a log behind a position that was reached, where these wait before it
+abbrev pub course_of : List Interval → List WaitingValue → LogValue → CourseRead
+course_of reached waiting log = course_behind reached log.in_use (groups_behind waiting (transactions_of (steps_of log.events)))
 
 -- ---- where a log begins
 
@@ -66,22 +74,22 @@ begins reached (event ∷ events) end = of_place (goes_on reached event)
 -- ---- as a relation
 
 -- The bytes are a log that goes on where this position was reached. Its steps are these transactions one after another,
--- and what these commit are the groups.
-pub record IsCourse (reached : List Interval) (bytes : List ℕ) (r : Reading PlacedValue CourseFault) : Type 0 where
+-- and what these commit are the groups, with what waits before the log and not behind it.
+pub record IsCourse (reached : List Interval) (waiting : List WaitingValue) (bytes : List ℕ) (r : CourseRead) : Type 0 where
   pub log : LogValue
   pub is : IsLog bytes log
   pub goes_on : begins reached log.events.items log.events.fault ≡ Ok tt
   pub transactions : Reading TransactionValue GroupFault
   pub are : AreTransactions (steps_of log.events) transactions
-  pub groups : r ≡ placed_behind reached log.in_use (groups_of transactions)
+  pub course : r ≡ course_behind reached log.in_use (groups_behind waiting transactions)
 
 -- ---- as a function
 
--- the groups of a file behind a position that was reached, or why it has none
-unfoldable pub course_at : List Interval → List ℕ → Result (Reading PlacedValue CourseFault) CourseFault
-course_at reached bytes = of_log (log_at bytes) >>= λ log. begins reached log.events.items log.events.fault >>= λ _. Ok (placed_of reached log)
+-- the groups of a file behind a position that was reached, where these wait before it, or why it has none
+unfoldable pub course_at : List Interval → List WaitingValue → List ℕ → Result CourseRead CourseFault
+course_at reached waiting bytes = of_log (log_at bytes) >>= λ log. begins reached log.events.items log.events.fault >>= λ _. Ok (course_of reached waiting log)
 
 -- the groups that are read are those of the file's transactions, and no others
 pub record CoursesAreRead : Type 0 where
-  pub spelled : (reached : List Interval) (bytes : List ℕ) (r : Reading PlacedValue CourseFault) → course_at reached bytes ≡ Ok r → IsCourse reached bytes r
-  pub only : (reached : List Interval) (bytes : List ℕ) (r : Reading PlacedValue CourseFault) → IsCourse reached bytes r → course_at reached bytes ≡ Ok r
+  pub spelled : (reached : List Interval) (waiting : List WaitingValue) (bytes : List ℕ) (r : CourseRead) → course_at reached waiting bytes ≡ Ok r → IsCourse reached waiting bytes r
+  pub only : (reached : List Interval) (waiting : List WaitingValue) (bytes : List ℕ) (r : CourseRead) → IsCourse reached waiting bytes r → course_at reached waiting bytes ≡ Ok r

@@ -1,22 +1,22 @@
 //! The groups of a log one after another, each with the position behind it.
 
-ghost use Rattle.std.specs.Prelude.{◌≡◌, IfErr, IfOk, Ok, option_map};
+ghost use Rattle.std.specs.Prelude.{◌≡◌, [], IfErr, IfOk, None, Ok, map, option_map};
 ghost use Rattle.std.specs.Result.{result_map_both};
 ghost use Rattle.list_laws.specs.Outcome.{GivesUnless};
 ghost use Rattle.log_events.specs.Log.{LogValue, log_value, log_at};
 ghost use Rattle.log_groups.specs.Step.{gtid_value};
-ghost use Rattle.log_groups.specs.GroupCalls.{group_value};
+ghost use Rattle.log_groups.specs.GroupCalls.{group_value, waiting_value};
 ghost use Rattle.log_places.specs.Place.{position_behind};
 ghost use Rattle.log_course.specs.declared.fault.CourseError.TheVariants.{Memory};
 ghost use Rattle.log_course.specs.Fault.{meant, of_log, of_place};
 ghost use Rattle.log_course.specs.Course.{begins, is_inside, course_at, CoursesAreRead};
-ghost use Rattle.log_course.specs.Calls.{placed_value, NextPlaced, PlacesGroup, EndsSo};
+ghost use Rattle.log_course.specs.Calls.{placed_value, read_of, NextPlaced, PlacesGroup, EndsSo};
 
 use crate::fault::{CourseError, CourseFault};
 use crate::laws::courses_are_read;
 use gtid_set::GtidSet;
 use log_events::{CrcTable, EventFault, Events, Log, log_of};
-use log_groups::{Done, Group, GroupError, GroupFault, Groups, Gtid, Transactions};
+use log_groups::{Done, Group, GroupError, GroupFault, Groups, Gtid, Transactions, Waiting};
 use log_places::{PlaceError, PlaceFault, goes_on, position_behind};
 use std::alloc::Global;
 use std::marker::Model;
@@ -31,7 +31,7 @@ pub struct PlacedGroup<'b> {
 }
 
 /// The groups of a log that are still to come, in order. Seen in contracts as that list with the fault that ends it, if
-/// one does, the position that was reached, and how many of the log's bytes aren't read yet.
+/// one does, the position that was reached, what waits where they end, and how many of the log's bytes aren't read yet.
 #[derive(Drop)]
 pub struct LogGroups<'t, 'b> {
     groups: Groups<'t, 'b>,
@@ -45,7 +45,7 @@ impl<'t, 'b> Model for LogGroups<'t, 'b> {
 
     ghost Value = { CourseValue };
 
-    ghost view = { λ a. record { reached = a.reached; groups = placed_behind a.reached a.in_use a.groups.reading; left = a.groups.left } };
+    ghost view = { λ a. record { reached = a.reached; groups = placed_behind a.reached a.in_use a.groups.groups.reading; waiting = a.groups.groups.waiting; left = a.groups.left } };
 }
 
 /// Whether a log ends inside of a transaction, or of an event.
@@ -139,16 +139,17 @@ fn opened<'t, 'b>(table: &'t CrcTable, bytes: &'b [u8]) -> Result<Log<'t, 'b>, C
 }
 
 impl<'t, 'b> LogGroups<'t, 'b> {
-    /// The groups of a file, where this position was reached before it. Only its first events are read yet. An error is
-    /// why the file isn't a log, or doesn't go on there, or want of memory.
+    /// The groups of a file, where this position was reached before it and these XA transactions wait. Only its first
+    /// events are read yet. An error is why the file isn't a log, or doesn't go on there, or want of memory.
     #[tactic(auto, unfolding(crate::specs::Course::course_at))]
     pub fn open(
         alloc: Global,
         table: &'t CrcTable,
         reached: GtidSet,
+        waiting: Vec<Waiting<'b>>,
         bytes: &'b [u8],
     ) -> Result<LogGroups<'t, 'b>, CourseError>
-        ensures reading { GivesUnless meant (λ a. a.groups) result (course_at reached bytes.now) }
+        ensures reading { GivesUnless meant read_of result (course_at reached (map waiting_value waiting.entry.items) bytes.now) }
         ensures reached { IfOk result (λ a. a.reached ≡ reached) }
         // All bytes behind the format description are still to be read.
         ensures left { IfOk result (λ a. (log : LogValue) → log_at bytes.now ≡ Ok log → a.left ≡ log.left) }
@@ -159,7 +160,7 @@ impl<'t, 'b> LogGroups<'t, 'b> {
         let log = opened(table, bytes)?;
         begins(alloc, &reached, log.events)?;
         let log = opened(table, bytes)?;
-        let groups = Groups::new(alloc, Transactions::new(log.events));
+        let groups = Groups::new(Transactions::new(log.events), waiting);
         Ok(LogGroups {
             groups,
             reached,
@@ -191,5 +192,12 @@ impl<'t, 'b> LogGroups<'t, 'b> {
         ensures { result ≡ self.now.left }
     {
         self.groups.bytes_left()
+    }
+
+    /// What waits behind the log, once its end was answered: for the log behind it.
+    pub fn into_waiting(self) -> Vec<Waiting<'b>>
+        ensures { self.entry.groups.items ≡ [] → self.entry.groups.fault ≡ None → map waiting_value result.items ≡ self.entry.waiting }
+    {
+        self.groups.into_waiting()
     }
 }

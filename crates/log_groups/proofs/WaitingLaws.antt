@@ -1,13 +1,11 @@
 -- What waits, one place on.
 use Rattle.std.proofs.Common.{◌≡◌, ℕ, suc, ◌+◌, ◌<◌, ◌≤◌, true, false, List, [], ◌∷◌, ◌++◌, length, map, take, drop, get_or, append_assoc, Option, None, Some, Result, Ok, Err, refl, sym, ap, ◌∙◌, arith}
 use Rattle.std.specs.Prelude.{remove}
-use Rattle.std.specs.List.{list_any}
 use Rattle.std.specs.Option.{option_map}
 use Rattle.std.specs.Result.{result_map_both}
 use Rattle.std.proofs.lemmas.List.{drop_more, drop_all, map-append, map_more, get_or_default}
 use Rattle.item_readers.specs.Reading.{Reading}
 use Rattle.log_groups.specs.declared.fault.GroupFault.{GroupFault}
-use Rattle.log_groups.specs.declared.fault.GroupFault.TheVariants.{StillPrepared}
 use Rattle.log_groups.specs.declared.fault.GroupError.{GroupError}
 use Rattle.log_groups.specs.declared.fault.GroupError.TheVariants.{Memory, Fault}
 use Rattle.log_groups.specs.Fault.{meant}
@@ -15,7 +13,7 @@ use Rattle.log_groups.specs.Calls.{NextTransaction}
 use Rattle.log_groups.specs.GroupCalls.{FindsWaiting, SettlesAs, FindsGroup, unless_refused, NextGroup}
 use Rattle.log_groups.specs.Body.{XidValue}
 use Rattle.log_groups.specs.Transaction.{DoneValue, TransactionValue}
-use Rattle.log_groups.specs.Group.{GroupValue, WaitingValue, same_xid, waiting_at, without, has_changes, settle, end_with, groups_in, groups_behind}
+use Rattle.log_groups.specs.Group.{GroupValue, WaitingValue, same_xid, waiting_at, without, Settled, settle, GroupsRead, put_group, groups_in, groups_behind}
 
 -- what a loop over places keeps: nothing before this place waits under the id
 pub record Looked {W : Type 0} (view : W → WaitingValue) (ws : List W) (x : XidValue) (i : ℕ) : Type 0 where
@@ -66,73 +64,74 @@ there_is view (w ∷ ws) x i h = ((view (get_or (w ∷ ws) i w)).changes, h.1 w)
 -- ---- groups
 
 pub group_there : (waiting left : List WaitingValue) (old new : Reading TransactionValue GroupFault) (t : TransactionValue) (changes : List DoneValue) → old.items ≡ t ∷ new.items → old.fault ≡ new.fault → settle waiting t ≡ Ok (changes, left)
-    → ((groups_behind waiting old).items ≡ record { gtid = t.gtid; changes = changes } ∷ (groups_behind left new).items) × ((groups_behind waiting old).fault ≡ (groups_behind left new).fault)
+    → FindsGroup (groups_behind waiting old) (Ok (Some (record { gtid = t.gtid; changes = changes }))) left new
 unfolding groups_in
-group_there waiting left old new t changes items fault settled = rw (items, fault, settled) (refl, refl)
+group_there waiting left old new t changes items fault settled = rw (items, fault, settled) (refl, refl, refl)
 
-pub group_refused : (waiting : List WaitingValue) (old new : Reading TransactionValue GroupFault) (t : TransactionValue) (wrong : GroupFault) → old.items ≡ t ∷ new.items → settle waiting t ≡ Err wrong
-    → ((groups_behind waiting old).items ≡ []) × ((groups_behind waiting old).fault ≡ Some wrong)
+group_refused : (waiting : List WaitingValue) (old new : Reading TransactionValue GroupFault) (t : TransactionValue) (wrong : GroupFault) → old.items ≡ t ∷ new.items → settle waiting t ≡ Err wrong → FindsGroup (groups_behind waiting old) (Err (Fault wrong)) waiting new
 unfolding groups_in
-group_refused waiting old new t wrong items settled = rw (items, settled) (refl, refl)
+group_refused waiting old new t wrong items settled = rw (items, settled) (refl, refl, refl)
 
-pub groups_faulty : (waiting : List WaitingValue) (old : Reading TransactionValue GroupFault) (wrong : GroupFault) → old.items ≡ [] → old.fault ≡ Some wrong → ((groups_behind waiting old).items ≡ []) × ((groups_behind waiting old).fault ≡ Some wrong)
+groups_faulty : (waiting : List WaitingValue) (old new : Reading TransactionValue GroupFault) (wrong : GroupFault) → old.items ≡ [] → old.fault ≡ Some wrong → FindsGroup (groups_behind waiting old) (Err (Fault wrong)) waiting new
 unfolding groups_in
-groups_faulty waiting old wrong none fault = rw (none, fault) (refl, refl)
-
-pub groups_end : (waiting : List WaitingValue) (old : Reading TransactionValue GroupFault) → old.items ≡ [] → old.fault ≡ None → ((groups_behind waiting old).items ≡ []) × ((groups_behind waiting old).fault ≡ end_with waiting)
-unfolding groups_in
-groups_end waiting old none fault = rw (none, fault) (refl, refl)
+groups_faulty waiting old new wrong none fault = rw (none, fault) (refl, refl, refl)
 
 -- the group of a transaction that was settled so, or not
-pub group_by : (waiting left : List WaitingValue) (old new : Reading TransactionValue GroupFault) (t : TransactionValue) (error : GroupError) → old.items ≡ t ∷ new.items → SettlesAs (settle waiting t) (Err error) left → FindsGroup (groups_behind waiting old) (Err error) (groups_behind left new)
+pub group_by : (waiting left : List WaitingValue) (old new : Reading TransactionValue GroupFault) (t : TransactionValue) (error : GroupError) → old.items ≡ t ∷ new.items → SettlesAs (settle waiting t) waiting (Err error) left
+    → FindsGroup (groups_behind waiting old) (Err error) left new
 group_by waiting left old new t Memory items settled = tt
-group_by waiting left old new t (Fault wrong) items settled = group_refused waiting old new t wrong items settled
+group_by waiting left old new t (Fault wrong) items settled = rw settled.1 (group_refused waiting old new t wrong items settled.0)
 
-pub none_by : (waiting left : List WaitingValue) (old new : Reading TransactionValue GroupFault) (error : GroupError) → NextTransaction old (Err error) new → FindsGroup (groups_behind waiting old) (Err error) (groups_behind left new)
-none_by waiting left old new Memory next = tt
-none_by waiting left old new (Fault wrong) next = groups_faulty waiting old wrong next.0 next.1
+pub none_by : (waiting : List WaitingValue) (old new : Reading TransactionValue GroupFault) (error : GroupError) → NextTransaction old (Err error) new → FindsGroup (groups_behind waiting old) (Err error) waiting new
+none_by waiting old new Memory next = tt
+none_by waiting old new (Fault wrong) next = groups_faulty waiting old new wrong next.0 next.1
 
 -- what a call says that gave a transaction, or none
 pub transaction_there : {X : Type 0} (view : X → TransactionValue) (old new : Reading TransactionValue GroupFault) (r : Result (Option X) GroupError) (x : X) → NextTransaction old (result_map_both (λ t. option_map view t) (λ e. e) r) new → r ≡ Ok (Some x)
     → (old.items ≡ view x ∷ new.items) × (old.fault ≡ new.fault)
 transaction_there view old new r x next e = rw e at next
 
-pub no_transaction : {X : Type 0} (view : X → TransactionValue) (old new : Reading TransactionValue GroupFault) (r : Result (Option X) GroupError) → NextTransaction old (result_map_both (λ t. option_map view t) (λ e. e) r) new → r ≡ Ok None
+no_transaction : {X : Type 0} (view : X → TransactionValue) (old new : Reading TransactionValue GroupFault) (r : Result (Option X) GroupError) → NextTransaction old (result_map_both (λ t. option_map view t) (λ e. e) r) new → r ≡ Ok None
     → (old.items ≡ []) × (old.fault ≡ None) × (new ≡ old)
 no_transaction view old new r next e = rw e at next
 
-pub end_there : (waiting : List WaitingValue) (old new : Reading TransactionValue GroupFault) → old.items ≡ [] → old.fault ≡ None → new ≡ old → list_any has_changes waiting ≡ false → FindsGroup (groups_behind waiting old) (Ok None) (groups_behind waiting new)
-end_there waiting old new none fault same test =
-    let end = groups_end waiting old none fault in
-    let no_fault : end_with waiting ≡ None = rw test refl in
-    (end.0, end.1 ∙ no_fault, ap (groups_behind waiting) same)
-
-pub end_waits : (waiting : List WaitingValue) (old : Reading TransactionValue GroupFault) → old.items ≡ [] → old.fault ≡ None → list_any has_changes waiting ≡ true → ((groups_behind waiting old).items ≡ []) × ((groups_behind waiting old).fault ≡ Some StillPrepared)
-end_waits waiting old none fault test =
-    let end = groups_end waiting old none fault in
-    let wrong : end_with waiting ≡ Some StillPrepared = rw test refl in
-    (end.0, end.1 ∙ wrong)
+pub end_there : {X : Type 0} (view : X → TransactionValue) (waiting : List WaitingValue) (old new : Reading TransactionValue GroupFault) (r : Result (Option X) GroupError) → NextTransaction old (result_map_both (λ t. option_map view t) (λ e. e) r) new → r ≡ Ok None
+    → FindsGroup (groups_behind waiting old) (Ok None) waiting new
+unfolding groups_in
+end_there view waiting old new r next e =
+    let none = no_transaction view old new r next e in
+    rw none.2 (rw (none.0, none.1) (refl, refl, refl))
 
 -- the next group of a reader, of which none was refused so far
-pub next_found : (failed : Option GroupFault) (all left old : Reading GroupValue GroupFault) (r : Option GroupValue) → failed ≡ None → unless_refused failed all ≡ old → FindsGroup all (Ok r) left → NextGroup old (Ok r) (unless_refused failed left)
-next_found failed all left old None is seen (none, fault, same) =
-    let plain : all ≡ old = ap (λ (f : Option GroupFault). unless_refused f all) (sym is) ∙ seen in
-    (ap (λ (r : Reading GroupValue GroupFault). r.items) (sym plain) ∙ none, ap (λ (r : Reading GroupValue GroupFault). r.fault) (sym plain) ∙ fault, ap (λ (f : Option GroupFault). unless_refused f left) is ∙ same ∙ plain)
-next_found failed all left old (Some g) is seen (items, fault) =
-    let plain : all ≡ old = ap (λ (f : Option GroupFault). unless_refused f all) (sym is) ∙ seen in
-    let behind : unless_refused failed left ≡ left = ap (λ (f : Option GroupFault). unless_refused f left) is in (
-      ap (λ (r : Reading GroupValue GroupFault). r.items) (sym plain) ∙ items ∙ ap (λ (r : Reading GroupValue GroupFault). g ∷ r.items) (sym behind),
-      ap (λ (r : Reading GroupValue GroupFault). r.fault) (sym plain) ∙ fault ∙ ap (λ (r : Reading GroupValue GroupFault). r.fault) (sym behind),
-    )
+pub next_found : (failed : Option GroupFault) (waiting left : List WaitingValue) (r rest : Reading TransactionValue GroupFault) (old : GroupsRead) (g : Option GroupValue) → failed ≡ None → unless_refused failed waiting r ≡ old
+    → FindsGroup (groups_behind waiting r) (Ok g) left rest → NextGroup old (Ok g) (unless_refused failed left rest)
+next_found (Some fault) waiting left r rest old g is seen h = cc
+next_found None waiting left r rest old None is seen h = rw (sym seen) h
+next_found None waiting left r rest old (Some g) is seen h = rw (sym seen) h
 
-whole : (r : Reading GroupValue GroupFault) (fault : GroupFault) → r.items ≡ [] → r.fault ≡ Some fault → ◌≡◌ {A = Reading GroupValue GroupFault} (record { items = []; fault = Some fault }) r
-whole r fault none is = rw (sym none, sym is) refl
+whole : (r : GroupsRead) (left : List WaitingValue) (fault : GroupFault) → r.reading.items ≡ [] → r.reading.fault ≡ Some fault → left ≡ r.waiting
+    → ◌≡◌ {A = GroupsRead} (record { reading = record { items = []; fault = Some fault }; waiting = left }) r
+whole r left fault none is same = rw (sym none, sym is, same) refl
 
-pub next_refused : (failed left_failed : Option GroupFault) (all after left old : Reading GroupValue GroupFault) (error : GroupError) → failed ≡ None → unless_refused failed all ≡ old → left_failed ≡ meant error
-    → FindsGroup all (Err error) after → NextGroup old (Err error) (unless_refused left_failed left)
-next_refused failed left_failed all after left old Memory is seen by h = tt
-next_refused failed left_failed all after left old (Fault fault) is seen by (none, wrong) =
-    let plain : all ≡ old = ap (λ (f : Option GroupFault). unless_refused f all) (sym is) ∙ seen in
-    let items = ap (λ (r : Reading GroupValue GroupFault). r.items) (sym plain) ∙ none in
-    let ends = ap (λ (r : Reading GroupValue GroupFault). r.fault) (sym plain) ∙ wrong in
-    (items, ends, ap (λ (f : Option GroupFault). unless_refused f left) by ∙ whole old fault items ends)
+pub next_refused : (failed left_failed : Option GroupFault) (waiting left : List WaitingValue) (r rest : Reading TransactionValue GroupFault) (old : GroupsRead) (error : GroupError) → failed ≡ None → unless_refused failed waiting r ≡ old → left_failed ≡ meant error
+    → FindsGroup (groups_behind waiting r) (Err error) left rest → NextGroup old (Err error) (unless_refused left_failed left rest)
+next_refused failed left_failed waiting left r rest old Memory is seen by h = tt
+next_refused (Some wrong) left_failed waiting left r rest old (Fault fault) is seen by h = cc
+next_refused None left_failed waiting left r rest old (Fault fault) is seen by h =
+    let there : FindsGroup old (Err (Fault fault)) left rest = (rw seen at h) in
+    (there.0, there.1, ap (λ (f : Option GroupFault). unless_refused f left rest) by ∙ whole old left fault there.0 there.1 there.2)
+
+-- where no group is to come, what waits is what waits at the end
+pub waits_there : (failed : Option GroupFault) (waiting : List WaitingValue) (r : Reading TransactionValue GroupFault) (all : GroupsRead) → unless_refused failed waiting r ≡ all → all.reading.items ≡ [] → waiting ≡ all.waiting
+unfolding groups_in
+waits_there (Some fault) waiting r all seen none = ap (λ (g : GroupsRead). g.waiting) seen
+waits_there None waiting r all seen none = by r.items (ap (λ (g : GroupsRead). g.reading.items) seen ∙ none) ∙ ap (λ (g : GroupsRead). g.waiting) seen
+  where
+    by_settled : (t : TransactionValue) (transactions : List TransactionValue) (s : Settled) → (put_group t.gtid waiting s (λ left. groups_in left transactions r.fault)).reading.items ≡ []
+        → waiting ≡ (put_group t.gtid waiting s (λ left. groups_in left transactions r.fault)).waiting
+    by_settled t transactions (Ok x) e = cc
+    by_settled t transactions (Err fault) e = refl
+
+    by : (transactions : List TransactionValue) → (groups_in waiting transactions r.fault).reading.items ≡ [] → waiting ≡ (groups_in waiting transactions r.fault).waiting
+    by [] e = refl
+    by (t ∷ transactions) e = by_settled t transactions (settle waiting t) e

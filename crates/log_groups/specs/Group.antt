@@ -1,12 +1,13 @@
 -- The groups of a log: what is committed at each position (MySQL manual, "XA Transaction States"). What an XA
--- transaction did that is prepared waits for a later transaction, which commits it or rolls it back by its id.
+-- transaction did that is prepared waits for a later transaction, in this log or in a later one, which commits it or rolls
+-- it back by its id.
 use Rattle.std.specs.Prelude.{◌==◌, ◌&&◌, nat_lt, if◌then◌else◌, List, [], ◌∷◌, ◌++◌, length, Bool, is_some, Option, Some, None, Result, Ok, Err}
 use Rattle.std.specs.List.{list_any}
 use Rattle.std.specs.Str.{bytes_eq}
 use Rattle.list_laws.specs.Outcome.{◌>>=◌}
 use Rattle.item_readers.specs.Reading.{Reading}
 use Rattle.log_groups.specs.declared.fault.GroupFault.{GroupFault}
-use Rattle.log_groups.specs.declared.fault.GroupFault.TheVariants.{Twice, NotPrepared, StillPrepared}
+use Rattle.log_groups.specs.declared.fault.GroupFault.TheVariants.{Twice, NotPrepared}
 use Rattle.log_groups.specs.Body.{XidValue}
 use Rattle.log_groups.specs.Step.{GtidValue, Maria, Mysql, EndingValue, Committed, RolledBack, Prepared, XaCommitted, XaRolledBack}
 use Rattle.log_groups.specs.Transaction.{DoneValue, TransactionValue}
@@ -68,26 +69,34 @@ settle waiting t = settle_by t.ending t.gtid t.changes waiting
 
 -- ---- of a log
 
--- nothing may wait at the end but what changes nothing
+-- groups one behind another, the fault that ends them, if one does, and what waits where they end
+pub record GroupsRead : Type 0 where
+  pub reading : Reading GroupValue GroupFault
+  pub waiting : List WaitingValue
+
+abbrev pub put_group : GtidValue → List WaitingValue → Settled → (List WaitingValue → GroupsRead) → GroupsRead
+put_group g waiting (Ok x) others =
+    let rest = others x.1 in
+    record {
+      reading = record { items = record { gtid = g; changes = x.0 } ∷ rest.reading.items; fault = rest.reading.fault };
+      waiting = rest.waiting;
+    }
+put_group g waiting (Err fault) others = record { reading = record { items = []; fault = Some fault }; waiting = waiting }
+
+-- the groups of transactions behind which this ends them, where these wait before the first
+unfoldable pub groups_in : List WaitingValue → List TransactionValue → Option GroupFault → GroupsRead
+groups_in waiting [] end = record { reading = record { items = []; fault = end }; waiting = waiting }
+groups_in waiting (t ∷ transactions) end = put_group t.gtid waiting (settle waiting t) (λ left. groups_in left transactions end)
+
+-- the groups of a log's transactions, where these wait before it: one for each, with its position
+abbrev pub groups_behind : List WaitingValue → Reading TransactionValue GroupFault → GroupsRead
+groups_behind waiting r = groups_in waiting r.items r.fault
+
+-- ---- behind the last log
+
+-- nothing may wait there but what changes nothing
 abbrev pub has_changes : WaitingValue → Bool
 has_changes w = nat_lt 0 (length w.changes)
 
-abbrev pub end_with : List WaitingValue → Option GroupFault
-end_with waiting = if list_any has_changes waiting then Some StillPrepared else None
-
-abbrev pub put_group : GtidValue → Settled → (List WaitingValue → Reading GroupValue GroupFault) → Reading GroupValue GroupFault
-put_group g (Ok x) others = let rest = others x.1 in record { items = record { gtid = g; changes = x.0 } ∷ rest.items; fault = rest.fault }
-put_group g (Err fault) others = record { items = []; fault = Some fault }
-
--- the groups of transactions behind which this ends them, where these wait
-unfoldable pub groups_in : List WaitingValue → List TransactionValue → Option GroupFault → Reading GroupValue GroupFault
-groups_in waiting [] None = record { items = []; fault = end_with waiting }
-groups_in waiting [] (Some fault) = record { items = []; fault = Some fault }
-groups_in waiting (t ∷ transactions) end = put_group t.gtid (settle waiting t) (λ left. groups_in left transactions end)
-
-abbrev pub groups_behind : List WaitingValue → Reading TransactionValue GroupFault → Reading GroupValue GroupFault
-groups_behind waiting r = groups_in waiting r.items r.fault
-
--- the groups of a log's transactions: one for each, with its position
-abbrev pub groups_of : Reading TransactionValue GroupFault → Reading GroupValue GroupFault
-groups_of r = groups_behind [] r
+abbrev pub still_waits : List WaitingValue → Bool
+still_waits waiting = list_any has_changes waiting

@@ -44,11 +44,11 @@ pub enum GroupFault {
     /// An XA transaction is prepared under the id of one that is.
     #[error("an XA transaction is prepared twice")]
     Twice,
-    /// An XA transaction is ended that isn't prepared in this log, or without its id.
-    #[error("the end of an XA transaction that isn't prepared in this log")]
+    /// An XA transaction is ended that isn't prepared in this log or in one before it, or without its id.
+    #[error("the end of an XA transaction that isn't prepared in the logs")]
     NotPrepared,
-    /// The log ends where an XA transaction that changes something is prepared.
-    #[error("the log ends where an XA transaction is prepared")]
+    /// The last log ends where an XA transaction that changes something is prepared.
+    #[error("the last log ends where an XA transaction is prepared")]
     StillPrepared,
 }
 

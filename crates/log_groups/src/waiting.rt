@@ -1,13 +1,12 @@
 //! XA transactions that are prepared.
 
 ghost use Rattle.std.specs.Prelude.{◌≡◌, map, is_some, option_map};
-ghost use Rattle.std.specs.List.{list_any};
 ghost use Rattle.std.specs.Result.{result_map_both};
 ghost use Rattle.list_laws.specs.Outcome.{Gives};
 ghost use Rattle.log_groups.specs.Body.{xid_value};
 ghost use Rattle.log_groups.specs.Step.{gtid_value};
 ghost use Rattle.log_groups.specs.Transaction.{done_value};
-ghost use Rattle.log_groups.specs.Group.{same_xid, waiting_at, xid_with, prepares, ends_waiting, has_changes, settle};
+ghost use Rattle.log_groups.specs.Group.{same_xid, waiting_at, xid_with, prepares, ends_waiting, still_waits, settle};
 ghost use Rattle.log_groups.specs.Calls.{transaction_value};
 ghost use Rattle.log_groups.specs.GroupCalls.{waiting_value, FindsWaiting, TakesWaiting, SettlesAs};
 
@@ -83,7 +82,7 @@ fn end_waiting<'b>(
     waiting: &mut Vec<Waiting<'b>>,
     gtid: &Gtid<'_>,
 ) -> Result<Vec<Done<'b>>, GroupError>
-    ensures { SettlesAs (ends_waiting (xid_with (gtid_value gtid.now)) (map waiting_value waiting.old.items)) (result_map_both (λ v. map done_value v.items) (λ e. e) result) (map waiting_value waiting.new.items) }
+    ensures { SettlesAs (ends_waiting (xid_with (gtid_value gtid.now)) (map waiting_value waiting.old.items)) (map waiting_value waiting.old.items) (result_map_both (λ v. map done_value v.items) (λ e. e) result) (map waiting_value waiting.new.items) }
 {
     match xid_with(gtid) {
         Some(xid) => match take_waiting(waiting, &xid) {
@@ -101,7 +100,7 @@ fn put_waiting<'b>(
     xid: Xid<'b>,
     changes: Vec<Done<'b>>,
 ) -> Result<Vec<Done<'b>>, GroupError>
-    ensures { SettlesAs (prepares (xid_value xid.entry) (map done_value changes.entry.items) (map waiting_value waiting.old.items)) (result_map_both (λ v. map done_value v.items) (λ e. e) result) (map waiting_value waiting.new.items) }
+    ensures { SettlesAs (prepares (xid_value xid.entry) (map done_value changes.entry.items) (map waiting_value waiting.old.items)) (map waiting_value waiting.old.items) (result_map_both (λ v. map done_value v.items) (λ e. e) result) (map waiting_value waiting.new.items) }
 {
     if has_waiting(waiting, &xid) {
         return Err(GroupError::Fault(GroupFault::Twice));
@@ -113,14 +112,15 @@ fn put_waiting<'b>(
     }
 }
 
-/// What a transaction commits; and what it leaves behind it to wait. Behind want of memory nothing is told of what waits.
+/// What a transaction commits; and what it leaves behind it to wait, which a fault leaves as it is. Behind want of memory
+/// nothing is told of what waits.
 #[tactic(auto, unfolding(crate::specs::Group::settle))]
 pub fn settle<'b>(
     alloc: Global,
     waiting: &mut Vec<Waiting<'b>>,
     transaction: Transaction<'b>,
 ) -> Result<Vec<Done<'b>>, GroupError>
-    ensures { SettlesAs (settle (map waiting_value waiting.old.items) (transaction_value transaction.entry)) (result_map_both (λ v. map done_value v.items) (λ e. e) result) (map waiting_value waiting.new.items) }
+    ensures { SettlesAs (settle (map waiting_value waiting.old.items) (transaction_value transaction.entry)) (map waiting_value waiting.old.items) (result_map_both (λ v. map done_value v.items) (λ e. e) result) (map waiting_value waiting.new.items) }
 {
     match transaction.ending {
         Ending::Committed => Ok(transaction.changes),
@@ -136,7 +136,7 @@ pub fn settle<'b>(
 
 /// Whether something waits that changes anything.
 pub fn any_waits(waiting: &[Waiting<'_>]) -> bool
-    ensures { result ≡ list_any has_changes (map waiting_value waiting.now) }
+    ensures { result ≡ still_waits (map waiting_value waiting.now) }
 {
     for one in waiting {
         if !one.changes.is_empty() {

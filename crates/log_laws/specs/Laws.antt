@@ -1,7 +1,6 @@
 -- Laws of what a feed tells of logs, as statements: each is the contract of a function without a body.
 use Rattle.std.specs.Prelude.{◌≡◌, ℕ, ◌+◌, ◌^◌, ◌<◌, false, true, List, [], ◌++◌, length, reverse, None, Ok}
 use Rattle.std.specs.List.{AllByRecursion, flat_map}
-use Rattle.item_readers.specs.Reading.{Reading}
 use Rattle.gtid_set.specs.declared.interval.Interval.{Interval}
 use Rattle.gtid_set.specs.Position.{IsCanonical}
 use Rattle.vevent.specs.EventValue.{EventValue}
@@ -11,8 +10,8 @@ use Rattle.source_feed.specs.GroupValue.{GroupValue}
 use Rattle.source_feed.specs.SourceValue.{SourceValue}
 use Rattle.source_feed.specs.Groups.{groups_of, first_fault, groups}
 use Rattle.event_laws.specs.Laws.{HaveEvents}
-use Rattle.log_course.specs.declared.fault.CourseFault.{CourseFault}
-use Rattle.log_course.specs.Course.{PlacedValue, course_at}
+use Rattle.log_groups.specs.Group.{WaitingValue}
+use Rattle.log_course.specs.Course.{PlacedValue, CourseRead, course_at}
 use Rattle.log_laws.specs.Source.{SourceTables, IsSource, source_of}
 use Rattle.log_laws.specs.Transcript.{Far, groups_told, last_told, written}
 use Rattle.log_laws.specs.Read.{groups_read, last_read, reached_by, said_by}
@@ -59,7 +58,7 @@ EndsAreTold =
 
 -- the positions of a file's transactions rise from the one before it
 abbrev pub CoursesRise : Type 0
-CoursesRise = (reached : List Interval) (bytes : List ℕ) (r : Reading PlacedValue CourseFault) → IsCanonical reached → course_at reached bytes ≡ Ok r → AreRising reached r.items
+CoursesRise = (reached : List Interval) (waiting : List WaitingValue) (bytes : List ℕ) (r : CourseRead) → IsCanonical reached → course_at reached waiting bytes ≡ Ok r → AreRising reached r.groups.items
 
 -- messages that are written are read again
 abbrev pub MessagesAreRead : Type 0

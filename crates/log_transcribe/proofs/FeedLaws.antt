@@ -1,12 +1,11 @@
 -- The feed of logs has just the groups of their transactions.
-use Rattle.std.proofs.Common.{◌≡◌, ℕ, zero, suc, ◌+◌, ◌<◌, ◌^◌, Bool, true, false, nat_lt, List, [], ◌∷◌, ◌++◌, length, reverse, replicate, get_or, Option, None, Some, Result, Ok, Err, refl, sym, ap, subst, ◌∙◌, arith, append_assoc}
+use Rattle.std.proofs.Common.{◌≡◌, ℕ, zero, suc, ◌+◌, ◌-◌, ◌<◌, ◌^◌, Bool, true, false, nat_lt, List, [], ◌∷◌, ◌++◌, length, reverse, replicate, get_or, Option, None, Some, Result, Ok, Err, refl, sym, ap, subst, ◌∙◌, arith, append_assoc}
 use Rattle.std.proofs.lemmas.Bool.{ltb-true, false≢true}
 use Rattle.std.proofs.lemmas.List.{append-nil, reverse-append}
 use Rattle.std.proofs.lemmas.List.Concat.{flat_map-append}
 use Rattle.std.specs.List.{AllByRecursion}
 use Rattle.list_laws.proofs.Fronts.{All-append}
 use Rattle.list_laws.specs.Outcome.{◌>>=◌}
-use Rattle.item_readers.specs.Reading.{Reading}
 use Rattle.gtid_set.specs.declared.interval.Interval.{Interval}
 use Rattle.gtid_set.specs.Position.{IsCanonical}
 use Rattle.vevent.specs.EventValue.{EventValue}
@@ -16,8 +15,11 @@ use Rattle.source_feed.specs.SourceValue.{SourceValue}
 use Rattle.source_feed.specs.PastEvents.{PastEvents, is_open}
 use Rattle.source_feed.specs.Groups.{groups_of, first_fault, groups}
 use Rattle.event_laws.specs.Laws.{HaveEvents}
+use Rattle.log_groups.specs.declared.fault.GroupFault.TheVariants.{StillPrepared}
+use Rattle.log_groups.specs.Group.{WaitingValue, still_waits}
 use Rattle.log_course.specs.declared.fault.CourseFault.{CourseFault}
-use Rattle.log_course.specs.Course.{PlacedValue, IsCourse, course_at, CoursesAreRead}
+use Rattle.log_course.specs.declared.fault.CourseFault.TheVariants.{Group}
+use Rattle.log_course.specs.Course.{PlacedValue, CourseRead, IsCourse, course_at, CoursesAreRead}
 use Rattle.log_feed.specs.declared.table.Stage.TheVariants.{Absent, Filled}
 use Rattle.log_feed.specs.Group.{told_of_all}
 use Rattle.log_laws.specs.declared.fault.TellFault.{TellFault}
@@ -26,10 +28,10 @@ use Rattle.log_laws.specs.Transcript.{Far, Messages, of_changes, messages_with, 
 use Rattle.log_laws.specs.Read.{groups_read, last_read, reached_by}
 use Rattle.log_laws.specs.Far.{TellsSoFar, AreRising}
 use Rattle.log_laws.specs.Laws.{events_in, behind, next_number, TellGroups, ReachesSoFar, TransactionsAreTold, TransactionsReach, EndsAreTold, CoursesRise, MessagesAreRead, FeedsHaveTheirGroups}
-use Rattle.log_laws.proofs.Steps.{given, given_if, same_value}
-use Rattle.log_transcribe.specs.declared.fault.LogsFault.TheVariants.{TooLong}
+use Rattle.log_laws.proofs.Steps.{given, given_if, given_unless, same_value}
+use Rattle.log_transcribe.specs.declared.fault.LogsFault.TheVariants.{Course, TooLong}
 use Rattle.log_transcribe.specs.Fault.{of_course, of_tell}
-use Rattle.log_transcribe.specs.Transcript.{up_to, course_told, log_told, logs_told, nothing_told, feed_told, short_feed, feed_of_logs}
+use Rattle.log_transcribe.specs.Transcript.{up_to, course_told, log_told, none_waits, logs_told, nothing_told, feed_told, short_feed, feed_of_logs}
 use Rattle.log_transcribe.specs.Feed.{HaveTransactions, groups_of_all, IsFeedOfLogs}
 
 -- the laws that it rests on
@@ -83,9 +85,9 @@ canonical_by reached (g ∷ one) c a = canonical_by g.position one a.0.canonical
 
 -- ---- files one behind another
 
-record AreRun (s : SourceTables) (logs : List (List ℕ)) (old : Far) (x : Messages) : Type 0 where
+record AreRun (s : SourceTables) (waiting : List WaitingValue) (logs : List (List ℕ)) (old : Far) (x : Messages) : Type 0 where
   transactions : List PlacedValue
-  have : HaveTransactions old.reached logs transactions
+  have : HaveTransactions old.reached waiting logs transactions
   rising : AreRising old.reached transactions
   told : groups_told s transactions old ≡ Ok x
 
@@ -97,34 +99,45 @@ pub of_tell_given : {A : Type 0} (file : ℕ) (r : Result A TellFault) (x : A) �
 of_tell_given file (Ok y) x e = ap Ok (same_value y x e)
 of_tell_given file (Err fault) x e = cc
 
+-- nothing waits behind the last file
+pub no_more : (file : ℕ) (waiting : List WaitingValue) (u : Unit {0}) → none_waits file waiting ≡ Ok u → still_waits waiting ≡ false
+no_more file waiting u e = (given_unless (still_waits waiting) (Ok tt) (Course (file - 1) (Group StillPrepared)) u e).0
+
 to_its_end : (file : ℕ) (fault : Option CourseFault) (x y : Messages) → up_to file fault x ≡ Ok y → (fault ≡ None) × (x ≡ y)
 to_its_end file None x y e = (refl, same_value x y e)
 to_its_end file (Some fault) x y e = cc
 
-logs_run : FeedLaws → (s : SourceTables) (file : ℕ) (logs : List (List ℕ)) (old : Far) (x : Messages) → IsCanonical old.reached → logs_told file s logs old ≡ Ok x → AreRun s logs old x
+logs_run : FeedLaws → (s : SourceTables) (file : ℕ) (waiting : List WaitingValue) (logs : List (List ℕ)) (old : Far) (x : Messages) → IsCanonical old.reached → logs_told file s waiting logs old ≡ Ok x → AreRun s waiting logs old x
 unfolding logs_told groups_told
-logs_run laws s file [] old x c e = record { transactions = []; have = refl; rising = tt; told = ap Ok (same_value ([], old) x e) }
-logs_run laws s file (bytes ∷ logs) old x c e =
-    let one = given (log_told file s bytes old) (λ x. logs_told (file + 1) s logs x.1 >>= λ y. Ok (x.0 ++ y.0, y.1)) x e in
-    let others = given (logs_told (file + 1) s logs one.0.1) (λ y. Ok (one.0.0 ++ y.0, y.1)) x one.2 in
-    let is : (one.0.0 ++ others.0.0, others.0.1) ≡ x = same_value (one.0.0 ++ others.0.0, others.0.1) x others.2 in
-    let read = given (of_course file (course_at old.reached bytes)) (λ r. course_told file s r old) one.0 one.1 in
-    let r : Reading PlacedValue CourseFault = read.0 in
-    let course : course_at old.reached bytes ≡ Ok r = of_course_given file (course_at old.reached bytes) r read.1 in
-    let there = given (of_tell file (groups_told s r.items old)) (λ x. up_to file r.fault x) one.0 read.2 in
-    let end = to_its_end file r.fault there.0 one.0 there.2 in
-    let told : groups_told s r.items old ≡ Ok one.0 = of_tell_given file (groups_told s r.items old) there.0 there.1 ∙ ap Ok end.1 in
-    let rising : AreRising old.reached r.items = laws.rise old.reached bytes r c course in
-    let reached : one.0.1.reached ≡ reached_by old.reached r.items = all_reached s r.items old one.0 told in
-    let mid : IsCanonical one.0.1.reached = subst IsCanonical (sym reached) (canonical_by old.reached r.items c rising) in
-    let rest : AreRun s logs one.0.1 others.0 = logs_run laws s (file + 1) logs one.0.1 others.0 mid others.1 in
-    let is_course : IsCourse old.reached bytes (record { items = r.items; fault = None }) =
-    subst (λ (f : Option CourseFault). IsCourse old.reached bytes (record { items = r.items; fault = f })) end.0 (laws.courses.spelled old.reached bytes r course) in
+logs_run laws s file waiting [] old x c e =
+    let none = given (none_waits file waiting) (λ _. Ok ([], old)) x e in
+    record { transactions = []; have = (refl, no_more file waiting none.0 none.1); rising = tt; told = ap Ok (same_value ([], old) x none.2) }
+logs_run laws s file waiting (bytes ∷ logs) old x c e =
+    let one = given (log_told file s waiting bytes old) (λ x. logs_told (file + 1) s x.1 logs x.0.1 >>= λ y. Ok (x.0.0 ++ y.0, y.1)) x e in
+    let others = given (logs_told (file + 1) s one.0.1 logs one.0.0.1) (λ y. Ok (one.0.0.0 ++ y.0, y.1)) x one.2 in
+    let is : (one.0.0.0 ++ others.0.0, others.0.1) ≡ x = same_value (one.0.0.0 ++ others.0.0, others.0.1) x others.2 in
+    let read = given (of_course file (course_at old.reached waiting bytes)) (λ r. course_told file s r.groups old >>= λ x. Ok (x, r.waiting)) one.0 one.1 in
+    let r : CourseRead = read.0 in
+    let items : List PlacedValue = r.groups.items in
+    let course : course_at old.reached waiting bytes ≡ Ok r = of_course_given file (course_at old.reached waiting bytes) r read.1 in
+    let messages = given (course_told file s r.groups old) (λ x. Ok (x, r.waiting)) one.0 read.2 in
+    let here : (messages.0, r.waiting) ≡ one.0 = same_value (messages.0, r.waiting) one.0 messages.2 in
+    let there = given (of_tell file (groups_told s items old)) (λ x. up_to file r.groups.fault x) messages.0 messages.1 in
+    let end = to_its_end file r.groups.fault there.0 messages.0 there.2 in
+    let told : groups_told s items old ≡ Ok one.0.0 = of_tell_given file (groups_told s items old) there.0 there.1 ∙ ap Ok (end.1 ∙ ap (λ (p : Messages × List WaitingValue). p.0) here) in
+    let left : r.waiting ≡ one.0.1 = ap (λ (p : Messages × List WaitingValue). p.1) here in
+    let rising : AreRising old.reached items = laws.rise old.reached waiting bytes r c course in
+    let reached : one.0.0.1.reached ≡ reached_by old.reached items = all_reached s items old one.0.0 told in
+    let mid : IsCanonical one.0.0.1.reached = subst IsCanonical (sym reached) (canonical_by old.reached items c rising) in
+    let rest : AreRun s one.0.1 logs one.0.0.1 others.0 = logs_run laws s (file + 1) one.0.1 logs one.0.0.1 others.0 mid others.1 in
+    let is_course : IsCourse old.reached waiting bytes (record { groups = record { items = items; fault = None }; waiting = one.0.1 }) =
+    subst (λ (w : List WaitingValue). IsCourse old.reached waiting bytes (record { groups = record { items = items; fault = None }; waiting = w })) left
+    (subst (λ (f : Option CourseFault). IsCourse old.reached waiting bytes (record { groups = record { items = items; fault = f }; waiting = r.waiting })) end.0 (laws.courses.spelled old.reached waiting bytes r course)) in
     record {
-      transactions = r.items ++ rest.transactions;
-      have = (r.items, rest.transactions, refl, is_course, subst (λ (at : List Interval). HaveTransactions at logs rest.transactions) reached rest.have);
-      rising = rising_both old.reached r.items rest.transactions rising (subst (λ (at : List Interval). AreRising at rest.transactions) reached rest.rising);
-      told = told_both s r.items rest.transactions old one.0 others.0 told rest.told ∙ ap Ok is;
+      transactions = items ++ rest.transactions;
+      have = (items, one.0.1, rest.transactions, refl, is_course, subst (λ (at : List Interval). HaveTransactions at one.0.1 logs rest.transactions) reached rest.have);
+      rising = rising_both old.reached items rest.transactions rising (subst (λ (at : List Interval). AreRising at rest.transactions) reached rest.rising);
+      told = told_both s items rest.transactions old one.0.0 others.0 told rest.told ∙ ap Ok is;
     }
 
 -- ---- the whole feed
@@ -162,11 +175,11 @@ feed_right laws s logs feed right e =
     let all = given (feed_told s logs) (λ messages. short_feed (length logs) (written messages)) feed e in
     let short = given_if (nat_lt (length (written all.0)) (2 ^ 31)) (Ok (written all.0)) (TooLong (length logs)) feed all.2 in
     let bytes : written all.0 ≡ feed = same_value (written all.0) feed short.1 in
-    let x = given (logs_told 0 s logs (nothing_told s)) (λ x. of_tell (length logs) (last_told s x.1) >>= λ last. Ok (x.0 ++ last)) all.0 all.1 in
+    let x = given (logs_told 0 s [] logs (nothing_told s)) (λ x. of_tell (length logs) (last_told s x.1) >>= λ last. Ok (x.0 ++ last)) all.0 all.1 in
     let last = given (of_tell (length logs) (last_told s x.0.1)) (λ last. Ok (x.0.0 ++ last)) all.0 x.2 in
     let are : x.0.0 ++ last.0 ≡ all.0 = same_value (x.0.0 ++ last.0) all.0 last.2 in
     let last_is : last_told s x.0.1 ≡ Ok last.0 = of_tell_given (length logs) (last_told s x.0.1) last.0 last.1 in
-    let run : AreRun s logs (nothing_told s) x.0 = logs_run laws s 0 logs (nothing_told s) x.0 tt x.1 in
+    let run : AreRun s [] logs (nothing_told s) x.0 = logs_run laws s 0 [] logs (nothing_told s) x.0 tt x.1 in
     let read : List GroupValue = groups_read s 1 run.transactions in
     let told : TellGroups s [] read x.0.0 x.0.1 = laws.told s [] run.transactions (nothing_told s) x.0.1 x.0.0 right (at_first s) run.rising run.told in
     let reach : ReachesSoFar s run.transactions (nothing_told s) x.0.1 = laws.reach s [] run.transactions (nothing_told s) x.0.1 x.0.0 right (at_first s) run.rising run.told in

@@ -21,8 +21,9 @@ use Rattle.source_feed.specs.SourceValue.{SourceValue}
 use Rattle.source_feed.specs.PastEvents.{PastEvents, is_open}
 use Rattle.source_feed.specs.Groups.{groups_of, first_fault, seen, closed, groups_in, groups}
 use Rattle.event_laws.specs.Laws.{HaveEvents, OpenedFeedsAreWhole, WholeFeedsAreCuts, WholeGoesBehindWhole}
+use Rattle.log_groups.specs.Group.{WaitingValue}
 use Rattle.log_course.specs.declared.fault.CourseFault.{CourseFault}
-use Rattle.log_course.specs.Course.{PlacedValue, IsCourse, course_at}
+use Rattle.log_course.specs.Course.{PlacedValue, CourseRead, IsCourse, course_at}
 use Rattle.log_places.specs.Place.{Rises}
 use Rattle.log_places.specs.declared.fault.PlaceFault.TheVariants.{GoesBack, Elsewhere}
 use Rattle.log_course.specs.declared.fault.CourseFault.TheVariants.{Place}
@@ -38,11 +39,12 @@ use Rattle.log_laws.proofs.Steps.{given, given_if, given_unless, same_value}
 use Rattle.log_transcribe.specs.declared.fault.LogsFault.TheVariants.{Course, TooLong}
 use Rattle.log_transcribe.specs.Fault.{of_course, of_tell}
 use Rattle.log_transcribe.specs.Feed.{HaveTransactions}
+use Rattle.log_transcribe.specs.Transcript.{none_waits}
 use Rattle.log_transcribe.specs.Said.{reached_at, reached_in, to_end, events_said, feed_said, feed_end}
 use Rattle.log_transcribe.specs.Apart.{overlaps}
 use Rattle.log_transcribe.specs.Behind.{Along, Going, going_to, changes_had, passed_far, moved, told_far, taken_far, group_behind, end_behind, groups_behind, log_behind, logs_behind, first_list, begun_by, begun, unsaid, along_of, behind_told, short_behind, bytes_behind}
 use Rattle.log_transcribe.specs.Further.{further, AreWhole, groups_further, IsFeedBehind}
-use Rattle.log_transcribe.proofs.FeedLaws.{FeedLaws, rising_both, canonical_by, of_course_given, of_tell_given, not_filled}
+use Rattle.log_transcribe.proofs.FeedLaws.{FeedLaws, no_more, rising_both, canonical_by, of_course_given, of_tell_given, not_filled}
 use Rattle.log_transcribe.proofs.ApartLaws.{apart}
 use Rattle.log_transcribe.proofs.SaidLaws.{says_columns}
 
@@ -99,34 +101,42 @@ on_reaches s had (g ∷ groups) a x o =
 
 -- ---- files one behind another
 
-record AreOn (s : SourceTables) (had : List Stage) (logs : List (List ℕ)) (a : Along) (x : Going) : Type 0 where
+record AreOn (s : SourceTables) (had : List Stage) (waiting : List WaitingValue) (logs : List (List ℕ)) (a : Along) (x : Going) : Type 0 where
   transactions : List PlacedValue
-  have : HaveTransactions a.logs logs transactions
+  have : HaveTransactions a.logs waiting logs transactions
   rising : AreRising a.logs transactions
   told : TellOn s had transactions a x
 
-logs_on : FeedLaws → (s : SourceTables) (had : List Stage) (file : ℕ) (logs : List (List ℕ)) (a : Along) (x : Going) → IsCanonical a.logs → logs_behind file s had logs a ≡ Ok x → AreOn s had logs a x
+logs_on : FeedLaws → (s : SourceTables) (had : List Stage) (file : ℕ) (waiting : List WaitingValue) (logs : List (List ℕ)) (a : Along) (x : Going) → IsCanonical a.logs → logs_behind file s had waiting logs a ≡ Ok x → AreOn s had waiting logs a x
 unfolding logs_behind
-logs_on laws s had file [] a x c e = record { transactions = []; have = refl; rising = tt; told = same_value ([], a) x e }
-logs_on laws s had file (bytes ∷ logs) a x c e =
-    let one = given (log_behind file s had bytes a) (λ x. logs_behind (file + 1) s had logs x.1 >>= λ y. Ok (x.0 ++ y.0, y.1)) x e in
-    let others = given (logs_behind (file + 1) s had logs one.0.1) (λ y. Ok (one.0.0 ++ y.0, y.1)) x one.2 in
-    let is : (one.0.0 ++ others.0.0, others.0.1) ≡ x = same_value (one.0.0 ++ others.0.0, others.0.1) x others.2 in
-    let read = given (of_course file (course_at a.logs bytes)) (λ r. groups_behind file s had r.items r.fault a) one.0 one.1 in
-    let r : Reading PlacedValue CourseFault = read.0 in
-    let course : course_at a.logs bytes ≡ Ok r = of_course_given file (course_at a.logs bytes) r read.1 in
-    let told = groups_on file s had r.items r.fault a one.0 read.2 in
-    let rising : AreRising a.logs r.items = laws.rise a.logs bytes r c course in
-    let reached : one.0.1.logs ≡ reached_by a.logs r.items = on_reaches s had r.items a one.0 told.1 in
-    let mid : IsCanonical one.0.1.logs = subst IsCanonical (sym reached) (canonical_by a.logs r.items c rising) in
-    let rest : AreOn s had logs one.0.1 others.0 = logs_on laws s had (file + 1) logs one.0.1 others.0 mid others.1 in
-    let is_course : IsCourse a.logs bytes (record { items = r.items; fault = None }) =
-    subst (λ (f : Option CourseFault). IsCourse a.logs bytes (record { items = r.items; fault = f })) told.0 (laws.courses.spelled a.logs bytes r course) in
+logs_on laws s had file waiting [] a x c e =
+    let none = given (none_waits file waiting) (λ _. Ok ([], a)) x e in
+    record { transactions = []; have = (refl, no_more file waiting none.0 none.1); rising = tt; told = same_value ([], a) x none.2 }
+logs_on laws s had file waiting (bytes ∷ logs) a x c e =
+    let one = given (log_behind file s had waiting bytes a) (λ x. logs_behind (file + 1) s had x.1 logs x.0.1 >>= λ y. Ok (x.0.0 ++ y.0, y.1)) x e in
+    let others = given (logs_behind (file + 1) s had one.0.1 logs one.0.0.1) (λ y. Ok (one.0.0.0 ++ y.0, y.1)) x one.2 in
+    let is : (one.0.0.0 ++ others.0.0, others.0.1) ≡ x = same_value (one.0.0.0 ++ others.0.0, others.0.1) x others.2 in
+    let read = given (of_course file (course_at a.logs waiting bytes)) (λ r. groups_behind file s had r.groups.items r.groups.fault a >>= λ x. Ok (x, r.waiting)) one.0 one.1 in
+    let r : CourseRead = read.0 in
+    let items : List PlacedValue = r.groups.items in
+    let course : course_at a.logs waiting bytes ≡ Ok r = of_course_given file (course_at a.logs waiting bytes) r read.1 in
+    let going = given (groups_behind file s had items r.groups.fault a) (λ x. Ok (x, r.waiting)) one.0 read.2 in
+    let here : (going.0, r.waiting) ≡ one.0 = same_value (going.0, r.waiting) one.0 going.2 in
+    let same : going.0 ≡ one.0.0 = ap (λ (p : Going × List WaitingValue). p.0) here in
+    let left : r.waiting ≡ one.0.1 = ap (λ (p : Going × List WaitingValue). p.1) here in
+    let told = groups_on file s had items r.groups.fault a one.0.0 (going.1 ∙ ap Ok same) in
+    let rising : AreRising a.logs items = laws.rise a.logs waiting bytes r c course in
+    let reached : one.0.0.1.logs ≡ reached_by a.logs items = on_reaches s had items a one.0.0 told.1 in
+    let mid : IsCanonical one.0.0.1.logs = subst IsCanonical (sym reached) (canonical_by a.logs items c rising) in
+    let rest : AreOn s had one.0.1 logs one.0.0.1 others.0 = logs_on laws s had (file + 1) one.0.1 logs one.0.0.1 others.0 mid others.1 in
+    let is_course : IsCourse a.logs waiting bytes (record { groups = record { items = items; fault = None }; waiting = one.0.1 }) =
+    subst (λ (w : List WaitingValue). IsCourse a.logs waiting bytes (record { groups = record { items = items; fault = None }; waiting = w })) left
+    (subst (λ (f : Option CourseFault). IsCourse a.logs waiting bytes (record { groups = record { items = items; fault = f }; waiting = r.waiting })) told.0 (laws.courses.spelled a.logs waiting bytes r course)) in
     record {
-      transactions = r.items ++ rest.transactions;
-      have = (r.items, rest.transactions, refl, is_course, subst (λ (at : List Interval). HaveTransactions at logs rest.transactions) reached rest.have);
-      rising = rising_both a.logs r.items rest.transactions rising (subst (λ (at : List Interval). AreRising at rest.transactions) reached rest.rising);
-      told = subst (TellOn s had (r.items ++ rest.transactions) a) is (both_on s had r.items rest.transactions a one.0 others.0 told.1 rest.told);
+      transactions = items ++ rest.transactions;
+      have = (items, one.0.1, rest.transactions, refl, is_course, subst (λ (at : List Interval). HaveTransactions at one.0.1 logs rest.transactions) reached rest.have);
+      rising = rising_both a.logs items rest.transactions rising (subst (λ (at : List Interval). AreRising at rest.transactions) reached rest.rising);
+      told = subst (TellOn s had (items ++ rest.transactions) a) is (both_on s had items rest.transactions a one.0.0 others.0 told.1 rest.told);
     }
 
 -- ---- their groups
@@ -403,11 +413,11 @@ module _ (laws : BehindLaws) (s : SourceTables) where
       let all = given (behind_told s had a logs) (λ messages. short_behind (length logs) (length feed) (written messages)) more put in
       let short = given_if (nat_lt (length feed + length (written all.0)) (2 ^ 31)) (Ok (written all.0)) (TooLong (length logs)) more all.2 in
       let bytes : written all.0 ≡ more = same_value (written all.0) more short.1 in
-      let x = given (logs_behind 0 s had logs a) (λ x. of_tell (length logs) (last_told s x.1.far) >>= λ last. Ok (x.0 ++ last)) all.0 all.1 in
+      let x = given (logs_behind 0 s had [] logs a) (λ x. of_tell (length logs) (last_told s x.1.far) >>= λ last. Ok (x.0 ++ last)) all.0 all.1 in
       let last = given (of_tell (length logs) (last_told s x.0.1.far)) (λ last. Ok (x.0.0 ++ last)) all.0 x.2 in
       let are : x.0.0 ++ last.0 ≡ all.0 = same_value (x.0.0 ++ last.0) all.0 last.2 in
       let last_is : last_told s x.0.1.far ≡ Ok last.0 = of_tell_given (length logs) (last_told s x.0.1.far) last.0 last.1 in
-      let run : AreOn s had logs a x.0 = logs_on laws.base s had 0 logs a x.0 f x.1 in
+      let run : AreOn s had [] logs a x.0 = logs_on laws.base s had 0 [] logs a x.0 f x.1 in
       let within : IsWithin first reached = begins_within reached first logs c f b in
       let q : Sequels laws s right had past run.transactions a x.0 = sequels laws s right had past run.transactions a x.0 t f within run.rising run.told in
       let new : List PlacedValue = further reached run.transactions in

@@ -1,19 +1,21 @@
 -- Messages put behind bytes, one transaction and one file further.
-use Rattle.std.proofs.Common.{◌≡◌, ℕ, suc, ◌+◌, ◌<◌, ◌≤◌, ◌^◌, Bool, true, false, nat_lt, List, [], ◌∷◌, ◌++◌, length, map, drop, get_or, Option, None, Some, Result, Ok, Err, refl, sym, ap, ◌∙◌, arith, append_assoc}
+use Rattle.std.proofs.Common.{◌≡◌, ℕ, suc, ◌+◌, ◌<◌, ◌≤◌, ◌^◌, Bool, true, false, nat_lt, List, [], ◌∷◌, ◌++◌, length, map, drop, get_or, Option, None, Some, Result, Ok, Err, refl, sym, ap, subst, ◌∙◌, arith, append_assoc}
 use Rattle.std.proofs.lemmas.Bool.{cond-true, cond-false, lt-ltb, le-ltb}
 use Rattle.std.proofs.lemmas.List.{append-nil, map-append, at_drop_more, at_drop_all}
 use Rattle.std.proofs.lemmas.List.Concat.{flat_map-append}
+use Rattle.std.specs.Prelude.{IfOk}
 use Rattle.list_laws.specs.Outcome.{◌>>=◌, Refuses, GivesUnless}
 use Rattle.item_readers.specs.Reading.{Reading}
 use Rattle.gtid_set.specs.declared.interval.Interval.{Interval}
 use Rattle.vevent.specs.EventValue.{EventValue, Begin, Commit}
 use Rattle.vevent.specs.WrittenEvent.{written_event}
 use Rattle.event_laws.specs.WrittenMessages.{written_response, framed, written_messages}
+use Rattle.log_groups.specs.Group.{WaitingValue}
 use Rattle.log_course.specs.declared.fault.CourseFault.{CourseFault}
 use Rattle.log_course.specs.declared.fault.CourseError as course_errors
 use Rattle.log_course.specs.declared.fault.CourseError.TheVariants as course_error
 use Rattle.log_course.specs.Fault as course_fault
-use Rattle.log_course.specs.Course.{PlacedValue, course_at}
+use Rattle.log_course.specs.Course.{PlacedValue, CourseRead, course_at}
 use Rattle.log_course.specs.Calls.{CourseValue, NextPlaced}
 use Rattle.log_feed.specs.declared.fault.ChangeFault.{ChangeFault}
 use Rattle.log_feed.specs.declared.fault.ChangeError as change_errors
@@ -32,8 +34,8 @@ use Rattle.log_transcribe.specs.declared.fault.LogsError.TheVariants as logs_err
 use Rattle.log_transcribe.specs.declared.fault.TellError.{TellError}
 use Rattle.log_transcribe.specs.declared.fault.TellError.TheVariants as tell_error
 use Rattle.log_transcribe.specs.Fault.{meant, of_course, of_tell}
-use Rattle.log_transcribe.specs.Transcript.{up_to, course_told, log_told, logs_told, nothing_told, feed_told, short_feed, feed_of_logs}
-use Rattle.log_transcribe.specs.Private.Bytes.{tell_meant, course_error_at, change_error_at, tell_error_at, event_bytes, transaction_bytes, events_put, last_put, with_messages, last_with, bytes_told, PutsNext}
+use Rattle.log_transcribe.specs.Transcript.{up_to, course_told, log_told, none_waits, logs_told, nothing_told, feed_told, short_feed, feed_of_logs}
+use Rattle.log_transcribe.specs.Private.Bytes.{tell_meant, course_error_at, change_error_at, tell_error_at, event_bytes, transaction_bytes, events_put, last_put, with_messages, with_waiting, last_with, bytes_told, PutsNext}
 
 -- ---- messages one behind another
 
@@ -212,53 +214,103 @@ module _ (file : ℕ) (s : SourceTables) where
 
   -- ---- a file
 
-  read_so : (bytes : List ℕ) (far : Far) (reached : List Interval) (r : Result (Reading PlacedValue CourseFault) CourseFault) → reached ≡ far.reached → course_at reached bytes ≡ r
-      → log_told file s bytes far ≡ of_course file r >>= λ r. course_told file s r far
-  read_so bytes far reached r same e =
-      ap (λ (r : Result (Reading PlacedValue CourseFault) CourseFault). of_course file r >>= λ r. course_told file s r far) (ap (λ (at_first : List Interval). course_at at_first bytes) (sym same) ∙ e)
+  read_so : (waiting : List WaitingValue) (bytes : List ℕ) (far : Far) (reached : List Interval) (r : Result CourseRead CourseFault) → reached ≡ far.reached → course_at reached waiting bytes ≡ r
+      → log_told file s waiting bytes far ≡ of_course file r >>= λ r. course_told file s r.groups far >>= λ x. Ok (x, r.waiting)
+  read_so waiting bytes far reached r same e =
+      ap (λ (r : Result CourseRead CourseFault). of_course file r >>= λ r. course_told file s r.groups far >>= λ x. Ok (x, r.waiting)) (ap (λ (at_first : List Interval). course_at at_first waiting bytes) (sym same) ∙ e)
 
-  pub log-opened : {U : Type 0} (bytes : List ℕ) (r : Reading PlacedValue CourseFault) (far next_far : Far) (reached : List Interval) (out next : List ℕ) (answer : Result U LogsError) → reached ≡ far.reached → course_at reached bytes ≡ Ok r
-      → GivesUnless meant (λ x. (next, next_far)) answer (with_messages (course_told file s r far) out) → GivesUnless meant (λ x. (next, next_far)) answer (with_messages (log_told file s bytes far) out)
-  log-opened bytes r far next_far reached out next (Ok x) same e put = ap (λ (m : Result Messages LogsFault). with_messages m out) (read_so bytes far reached (Ok r) same e) ∙ put
-  log-opened bytes r far next_far reached out next (Err logs_error.Memory) same e put = tt
-  log-opened bytes r far next_far reached out next (Err (logs_error.Fault fault)) same e put = ap (λ (m : Result Messages LogsFault). with_messages m out) (read_so bytes far reached (Ok r) same e) ∙ put
+  log-opened : (waiting left : List WaitingValue) (bytes : List ℕ) (r : CourseRead) (far next_far : Far) (reached : List Interval) (out next : List ℕ) → reached ≡ far.reached → course_at reached waiting bytes ≡ Ok r
+      → with_messages (course_told file s r.groups far) out ≡ Ok (next, next_far) → left ≡ r.waiting → with_waiting (log_told file s waiting bytes far) out ≡ Ok ((next, next_far), left)
+  log-opened waiting left bytes r far next_far reached out next same e put is = ap (λ (m : Result (Messages × List WaitingValue) LogsFault). with_waiting m out) (read_so waiting bytes far reached (Ok r) same e) ∙ (rw is (by (course_told file s r.groups far) put))
+    where
+      by : (m : Result Messages LogsFault) → with_messages m out ≡ Ok (next, next_far) → with_waiting (m >>= λ x. Ok (x, r.waiting)) out ≡ Ok ((next, next_far), r.waiting)
+      by (Err fault) h = cc
+      by (Ok x) h = ap (λ (p : List ℕ × Far). Ok (p, r.waiting)) (same_told (out ++ written x.0, x.1) (next, next_far) h)
 
-  pub log-unopened : (bytes : List ℕ) (far : Far) (reached : List Interval) (out : List ℕ) (error : course_errors.CourseError) → reached ≡ far.reached → Refuses course_fault.meant error (course_at reached bytes)
-      → Refuses meant (course_error_at file error) (with_messages (log_told file s bytes far) out)
-  log-unopened bytes far reached out course_error.Memory same e = tt
-  log-unopened bytes far reached out (course_error.Fault fault) same e = ap (λ (m : Result Messages LogsFault). with_messages m out) (read_so bytes far reached (Err fault) same e)
+  log-stopped : (waiting : List WaitingValue) (bytes : List ℕ) (r : CourseRead) (far : Far) (reached : List Interval) (out : List ℕ) (error : LogsError) → reached ≡ far.reached → course_at reached waiting bytes ≡ Ok r
+      → Refuses meant error (with_messages (course_told file s r.groups far) out) → Refuses meant error (with_waiting (log_told file s waiting bytes far) out)
+  log-stopped waiting bytes r far reached out logs_error.Memory same e put = tt
+  log-stopped waiting bytes r far reached out (logs_error.Fault fault) same e put = ap (λ (m : Result (Messages × List WaitingValue) LogsFault). with_waiting m out) (read_so waiting bytes far reached (Ok r) same e) ∙ by (course_told file s r.groups far) put
+    where
+      by : (m : Result Messages LogsFault) → with_messages m out ≡ Err fault → with_waiting (m >>= λ x. Ok (x, r.waiting)) out ≡ Err fault
+      by (Err other) h = let same : other ≡ fault = cc in ap (λ (f : LogsFault). Err f) same
+      by (Ok x) h = cc
+
+  pub log-put : {W : Type 0} (view : W → List WaitingValue) (answer : Result W LogsError) (waiting : List WaitingValue) (bytes : List ℕ) (r : CourseRead) (far next_far : Far) (reached : List Interval) (out next : List ℕ) → reached ≡ far.reached
+      → course_at reached waiting bytes ≡ Ok r → GivesUnless meant (λ _. (next, next_far)) answer (with_messages (course_told file s r.groups far) out) → IfOk answer (λ w. view w ≡ r.waiting)
+      → GivesUnless meant (λ w. ((next, next_far), view w)) answer (with_waiting (log_told file s waiting bytes far) out)
+  log-put view (Ok w) waiting bytes r far next_far reached out next same e put left = log-opened waiting (view w) bytes r far next_far reached out next same e put left
+  log-put view (Err error) waiting bytes r far next_far reached out next same e put left = log-stopped waiting bytes r far reached out error same e put
+
+  pub log-unopened : (waiting : List WaitingValue) (bytes : List ℕ) (far : Far) (reached : List Interval) (out : List ℕ) (error : course_errors.CourseError) → reached ≡ far.reached → Refuses course_fault.meant error (course_at reached waiting bytes)
+      → Refuses meant (course_error_at file error) (with_waiting (log_told file s waiting bytes far) out)
+  log-unopened waiting bytes far reached out course_error.Memory same e = tt
+  log-unopened waiting bytes far reached out (course_error.Fault fault) same e = ap (λ (m : Result (Messages × List WaitingValue) LogsFault). with_waiting m out) (read_so waiting bytes far reached (Err fault) same e)
 
 -- ---- files
 
+file_further : {F : Type 0} (r : Result (Messages × List WaitingValue) F) (rest : List WaitingValue → Far → Result Messages F) (out next : List ℕ) (mid : Far) (left : List WaitingValue) → with_waiting r out ≡ Ok ((next, mid), left)
+    → with_messages (r >>= λ x. rest x.1 x.0.1 >>= λ y. Ok (x.0.0 ++ y.0, y.1)) out ≡ with_messages (rest left mid) next
+file_further (Err fault) rest out next mid left e = cc
+file_further {F} (Ok x) rest out next mid left e =
+    let both : ◌≡◌ {A = (List ℕ × Far) × List WaitingValue} ((out ++ written x.0.0, x.0.1), x.1) ((next, mid), left) = same_told ((out ++ written x.0.0, x.0.1), x.1) ((next, mid), left) e in
+    rw (sym (ap (λ (p : (List ℕ × Far) × List WaitingValue). p.0.0) both), sym (ap (λ (p : (List ℕ × Far) × List WaitingValue). p.0.1) both), sym (ap (λ (p : (List ℕ × Far) × List WaitingValue). p.1) both)) (by (rest x.1 x.0.1))
+  where
+    by : (r : Result Messages F) → with_messages (r >>= λ y. Ok (x.0.0 ++ y.0, y.1)) out ≡ with_messages r (out ++ written x.0.0)
+    by (Err fault) = refl
+    by (Ok y) = ap (λ (b : List ℕ). Ok (b, y.1)) (put_both out x.0.0 y.0)
+
+file_wrong : {F : Type 0} (r : Result (Messages × List WaitingValue) F) (rest : List WaitingValue → Far → Result Messages F) (out : List ℕ) (fault : F) → with_waiting r out ≡ Err fault
+    → with_messages (r >>= λ x. rest x.1 x.0.1 >>= λ y. Ok (x.0.0 ++ y.0, y.1)) out ≡ Err fault
+file_wrong (Err other) rest out fault e = cc
+file_wrong (Ok x) rest out fault e = cc
+
 module _ (s : SourceTables) where
-  pub logs-further : (file : ℕ) (bytes : List ℕ) (logs : List (List ℕ)) (far next_far : Far) (out next : List ℕ) (all : Putting) → with_messages (log_told file s bytes far) out ≡ Ok (next, next_far)
-      → with_messages (logs_told file s (bytes ∷ logs) far) out ≡ all → with_messages (logs_told (file + 1) s logs next_far) next ≡ all
+  pub logs-further : (file : ℕ) (waiting left : List WaitingValue) (bytes : List ℕ) (logs : List (List ℕ)) (far next_far : Far) (out next : List ℕ) (all : Putting) → with_waiting (log_told file s waiting bytes far) out ≡ Ok ((next, next_far), left)
+      → with_messages (logs_told file s waiting (bytes ∷ logs) far) out ≡ all → with_messages (logs_told (file + 1) s left logs next_far) next ≡ all
   unfolding logs_told
-  logs-further file bytes logs far next_far out next all e seen = sym (further (log_told file s bytes far) (λ f. logs_told (file + 1) s logs f) out next next_far e) ∙ seen
+  logs-further file waiting left bytes logs far next_far out next all e seen = sym (file_further (log_told file s waiting bytes far) (λ w f. logs_told (file + 1) s w logs f) out next next_far left e) ∙ seen
 
-  pub logs-wrong : (file : ℕ) (bytes : List ℕ) (logs : List (List ℕ)) (far : Far) (out : List ℕ) (error : LogsError) (all : Putting) → Refuses meant error (with_messages (log_told file s bytes far) out)
-      → with_messages (logs_told file s (bytes ∷ logs) far) out ≡ all → Refuses meant error all
+  pub logs-wrong : (file : ℕ) (waiting : List WaitingValue) (bytes : List ℕ) (logs : List (List ℕ)) (far : Far) (out : List ℕ) (error : LogsError) (all : Putting) → Refuses meant error (with_waiting (log_told file s waiting bytes far) out)
+      → with_messages (logs_told file s waiting (bytes ∷ logs) far) out ≡ all → Refuses meant error all
   unfolding logs_told
-  logs-wrong file bytes logs far out logs_error.Memory all e seen = tt
-  logs-wrong file bytes logs far out (logs_error.Fault fault) all e seen = sym seen ∙ wrong (log_told file s bytes far) (λ f. logs_told (file + 1) s logs f) out fault e
+  logs-wrong file waiting bytes logs far out logs_error.Memory all e seen = tt
+  logs-wrong file waiting bytes logs far out (logs_error.Fault fault) all e seen = sym seen ∙ file_wrong (log_told file s waiting bytes far) (λ w f. logs_told (file + 1) s w logs f) out fault e
 
-  pub logs-end : (file : ℕ) (far : Far) (out : List ℕ) (all : Putting) → with_messages (logs_told file s [] far) out ≡ all → all ≡ Ok (out, far)
+  logs-end : (file : ℕ) (waiting : List WaitingValue) (far : Far) (out : List ℕ) (all : Putting) (u : Unit {0}) → none_waits file waiting ≡ Ok u → with_messages (logs_told file s waiting [] far) out ≡ all → all ≡ Ok (out, far)
   unfolding logs_told
-  logs-end file far out all seen = sym seen ∙ ap (λ (b : List ℕ). Ok (b, far)) (append-nil out)
+  logs-end file waiting far out all u none seen = sym seen ∙ rw none (ap (λ (b : List ℕ). Ok (b, far)) (append-nil out))
+
+  logs-waited : (file : ℕ) (waiting : List WaitingValue) (far : Far) (out : List ℕ) (all : Putting) (error : LogsError) → Refuses meant error (none_waits file waiting) → with_messages (logs_told file s waiting [] far) out ≡ all → Refuses meant error all
+  unfolding logs_told
+  logs-waited file waiting far out all logs_error.Memory wrong seen = tt
+  logs-waited file waiting far out all (logs_error.Fault fault) wrong seen = sym seen ∙ rw wrong refl
 
   -- of a list of the program
-  pub logs-on : {B : Type 0} (view : B → List ℕ) (logs : List B) (i : ℕ) (far next_far : Far) (out next : List ℕ) (all : Putting) (d : B) → i < length logs → with_messages (log_told i s (view (get_or logs i d)) far) out ≡ Ok (next, next_far)
-      → with_messages (logs_told i s (map view (drop i logs)) far) out ≡ all → with_messages (logs_told (i + 1) s (map view (drop (i + 1) logs)) next_far) next ≡ all
-  logs-on view logs i far next_far out next all d less e seen =
-      logs-further i (view (get_or logs i d)) (map view (drop (i + 1) logs)) far next_far out next all e (sym (at_drop_more (λ bs. with_messages (logs_told i s (map view bs) far) out) logs i d less) ∙ seen)
+  pub logs-on : {B : Type 0} (view : B → List ℕ) (logs : List B) (i : ℕ) (waiting left : List WaitingValue) (far next_far : Far) (out next : List ℕ) (all : Putting) (d : B) → i < length logs
+      → with_waiting (log_told i s waiting (view (get_or logs i d)) far) out ≡ Ok ((next, next_far), left) → with_messages (logs_told i s waiting (map view (drop i logs)) far) out ≡ all
+      → with_messages (logs_told (i + 1) s left (map view (drop (i + 1) logs)) next_far) next ≡ all
+  logs-on view logs i waiting left far next_far out next all d less e seen =
+      logs-further i waiting left (view (get_or logs i d)) (map view (drop (i + 1) logs)) far next_far out next all e (sym (at_drop_more (λ bs. with_messages (logs_told i s waiting (map view bs) far) out) logs i d less) ∙ seen)
 
-  pub logs-refused : {B : Type 0} (view : B → List ℕ) (logs : List B) (i : ℕ) (far : Far) (out : List ℕ) (all : Putting) (d : B) (error : LogsError) → i < length logs → Refuses meant error (with_messages (log_told i s (view (get_or logs i d)) far) out)
-      → with_messages (logs_told i s (map view (drop i logs)) far) out ≡ all → Refuses meant error all
-  logs-refused view logs i far out all d error less e seen =
-      logs-wrong i (view (get_or logs i d)) (map view (drop (i + 1) logs)) far out error all e (sym (at_drop_more (λ bs. with_messages (logs_told i s (map view bs) far) out) logs i d less) ∙ seen)
+  pub logs-refused : {B : Type 0} (view : B → List ℕ) (logs : List B) (i : ℕ) (waiting : List WaitingValue) (far : Far) (out : List ℕ) (all : Putting) (d : B) (error : LogsError) → i < length logs
+      → Refuses meant error (with_waiting (log_told i s waiting (view (get_or logs i d)) far) out) → with_messages (logs_told i s waiting (map view (drop i logs)) far) out ≡ all → Refuses meant error all
+  logs-refused view logs i waiting far out all d error less e seen =
+      logs-wrong i waiting (view (get_or logs i d)) (map view (drop (i + 1) logs)) far out error all e (sym (at_drop_more (λ bs. with_messages (logs_told i s waiting (map view bs) far) out) logs i d less) ∙ seen)
 
-  pub logs-done : {B : Type 0} (view : B → List ℕ) (logs : List B) (i : ℕ) (far : Far) (out : List ℕ) (all : Putting) → length logs ≤ i → with_messages (logs_told i s (map view (drop i logs)) far) out ≡ all → all ≡ Ok (out, far)
-  logs-done view logs i far out all le seen = logs-end i far out all (sym (at_drop_all (λ bs. with_messages (logs_told i s (map view bs) far) out) logs i le) ∙ seen)
+  pub logs-done : {B : Type 0} (view : B → List ℕ) (logs : List B) (i n : ℕ) (waiting : List WaitingValue) (far : Far) (out : List ℕ) (all : Putting) (answer : Result (Unit {0}) LogsError) → length logs ≤ i → i ≤ length logs → n ≡ length logs
+      → GivesUnless meant (λ x. x) answer (none_waits n waiting) → with_messages (logs_told i s waiting (map view (drop i logs)) far) out ≡ all → GivesUnless meant (λ _. (out, far)) answer all
+  logs-done {B} view logs i n waiting far out all answer le no_more is none seen = by answer none
+    where
+      same : n ≡ i
+      same = omega (arith, le, no_more, is)
+
+      end : with_messages (logs_told i s waiting [] far) out ≡ all
+      end = sym (at_drop_all (λ bs. with_messages (logs_told i s waiting (map view bs) far) out) logs i le) ∙ seen
+
+      by : (r : Result (Unit {0}) LogsError) → GivesUnless meant (λ x. x) r (none_waits n waiting) → GivesUnless meant (λ _. (out, far)) r all
+      by (Ok u) h = logs-end i waiting far out all u (ap (λ (k : ℕ). none_waits k waiting) (sym same) ∙ h) end
+      by (Err error) h = logs-waited i waiting far out all error (subst (λ (k : ℕ). Refuses meant error (none_waits k waiting)) same h) end
 
 -- ---- the end
 
@@ -271,8 +323,8 @@ last-put s reached false out = by (place_told s.keyspace s.shard reached)
     by (Ok place) = ap (λ (b : List ℕ). Ok (out ++ b)) (sym (append-nil (framed (written_response (written_event place ∷ [])))))
 
 -- the bytes of all messages are those of the files with the last one behind them
-feed_is : (s : SourceTables) (logs : List (List ℕ)) (out : List ℕ) (far : Far) → with_messages (logs_told 0 s logs (nothing_told s)) [] ≡ Ok (out, far) → bytes_told (feed_told s logs) ≡ of_tell (length logs) (last_with (last_told s far) out)
-feed_is s logs out far e = by (logs_told 0 s logs (nothing_told s)) e
+feed_is : (s : SourceTables) (logs : List (List ℕ)) (out : List ℕ) (far : Far) → with_messages (logs_told 0 s [] logs (nothing_told s)) [] ≡ Ok (out, far) → bytes_told (feed_told s logs) ≡ of_tell (length logs) (last_with (last_told s far) out)
+feed_is s logs out far e = by (logs_told 0 s [] logs (nothing_told s)) e
   where
     ends : (x : Messages) (r : Result (List (List EventValue)) TellFault) → bytes_told (of_tell (length logs) r >>= λ last. Ok (x.0 ++ last)) ≡ of_tell (length logs) (last_with r (written x.0))
     ends x (Err fault) = refl
@@ -284,7 +336,7 @@ feed_is s logs out far e = by (logs_told 0 s logs (nothing_told s)) e
         let both : ◌≡◌ {A = List ℕ × Far} (written x.0, x.1) (out, far) = same_told (written x.0, x.1) (out, far) h in
         ends x (last_told s x.1) ∙ ap (λ (p : List ℕ × Far). of_tell (length logs) (last_with (last_told s p.1) p.0)) both
 
-pub feed-put : {X : Type 0} (view : X → List ℕ) (answer : Result X LogsError) (s : SourceTables) (logs : List (List ℕ)) (n : ℕ) (out : List ℕ) (far : Far) → n ≡ length logs → with_messages (logs_told 0 s logs (nothing_told s)) [] ≡ Ok (out, far)
+pub feed-put : {X : Type 0} (view : X → List ℕ) (answer : Result X LogsError) (s : SourceTables) (logs : List (List ℕ)) (n : ℕ) (out : List ℕ) (far : Far) → n ≡ length logs → with_messages (logs_told 0 s [] logs (nothing_told s)) [] ≡ Ok (out, far)
     → GivesUnless meant view answer (of_tell n (last_with (last_told s far) out)) → GivesUnless meant view answer (bytes_told (feed_told s logs))
 feed-put view (Ok x) s logs n out far many e put = feed_is s logs out far e ∙ ap (λ (k : ℕ). of_tell k (last_with (last_told s far) out)) (sym many) ∙ put
 feed-put view (Err logs_error.Memory) s logs n out far many e put = tt

@@ -21,6 +21,7 @@ use Rattle.log_feed.specs.declared.table.Stage.{Stage}
 use Rattle.log_feed.specs.declared.table.Stage.TheVariants.{Absent, Made, Filled}
 use Rattle.log_feed.specs.Table.{TableValue, stage_at}
 use Rattle.log_groups.specs.Transaction.{DoneValue, RowsOf, Altered}
+use Rattle.log_groups.specs.Group.{WaitingValue}
 use Rattle.log_laws.specs.declared.fault.TellFault.{TellFault}
 use Rattle.log_laws.specs.Read.{table_there}
 use Rattle.log_laws.specs.Source.{SourceTables}
@@ -30,6 +31,7 @@ use Rattle.log_transcribe.specs.declared.fault.LogsFault.TheVariants.{Course, To
 use Rattle.log_transcribe.specs.declared.fault.BehindFault.{BehindFault}
 use Rattle.log_transcribe.specs.Fault.{of_course, of_tell, of_feed, of_logs}
 use Rattle.log_transcribe.specs.Said.{feed_end, feed_said}
+use Rattle.log_transcribe.specs.Transcript.{none_waits}
 use Rattle.log_transcribe.specs.Apart.{overlaps}
 
 -- how far the feed tells, and the position that the logs reached
@@ -97,12 +99,13 @@ unfoldable pub groups_behind : ℕ → SourceTables → List Stage → List Plac
 groups_behind file s had [] end a = end_behind file end a
 groups_behind file s had (g ∷ groups) end a = group_behind file s had g a >>= λ x. groups_behind file s had groups end x.1 >>= λ y. Ok (x.0 ++ y.0, y.1)
 
-abbrev pub log_behind : ℕ → SourceTables → List Stage → List ℕ → Along → Result Going LogsFault
-log_behind file s had bytes a = of_course file (course_at a.logs bytes) >>= λ r. groups_behind file s had r.items r.fault a
+-- with what waits before the file and behind it
+abbrev pub log_behind : ℕ → SourceTables → List Stage → List WaitingValue → List ℕ → Along → Result (Going × List WaitingValue) LogsFault
+log_behind file s had waiting bytes a = of_course file (course_at a.logs waiting bytes) >>= λ r. groups_behind file s had r.groups.items r.groups.fault a >>= λ x. Ok (x, r.waiting)
 
-unfoldable pub logs_behind : ℕ → SourceTables → List Stage → List (List ℕ) → Along → Result Going LogsFault
-logs_behind file s had [] a = Ok ([], a)
-logs_behind file s had (bytes ∷ logs) a = log_behind file s had bytes a >>= λ x. logs_behind (file + 1) s had logs x.1 >>= λ y. Ok (x.0 ++ y.0, y.1)
+unfoldable pub logs_behind : ℕ → SourceTables → List Stage → List WaitingValue → List (List ℕ) → Along → Result Going LogsFault
+logs_behind file s had waiting [] a = none_waits file waiting >>= λ _. Ok ([], a)
+logs_behind file s had waiting (bytes ∷ logs) a = log_behind file s had waiting bytes a >>= λ x. logs_behind (file + 1) s had x.1 logs x.0.1 >>= λ y. Ok (x.0.0 ++ y.0, y.1)
 
 -- ---- the whole
 
@@ -135,7 +138,7 @@ along_of reached first had = record { far = record { reached = reached; stages =
 
 -- the further messages, with the position that was reached behind the last file
 abbrev pub behind_told : SourceTables → List Stage → Along → List (List ℕ) → Result (List (List EventValue)) LogsFault
-behind_told s had a logs = logs_behind 0 s had logs a >>= λ x. of_tell (length logs) (last_told s x.1.far) >>= λ last. Ok (x.0 ++ last)
+behind_told s had a logs = logs_behind 0 s had [] logs a >>= λ x. of_tell (length logs) (last_told s x.1.far) >>= λ last. Ok (x.0 ++ last)
 
 -- bytes that are within what a feed has, behind so many
 abbrev pub short_behind : ℕ → ℕ → List ℕ → Result (List ℕ) LogsFault

@@ -41,6 +41,6 @@ pub record IsFeedBehind (s : SourceTables) (feed : List ℕ) (logs : List (List 
   pub first : List Interval
   pub begins : IsWithin first reached
   pub transactions : List PlacedValue
-  pub have : HaveTransactions first logs transactions
+  pub have : HaveTransactions first [] logs transactions
   pub whole : AreWhole reached first transactions
   pub read : groups (feed ++ more) (source_of s) ≡ Ok (old ++ groups_further s (length old) reached (further reached transactions))

@@ -1,9 +1,12 @@
 -- The feed of logs, one file behind another (this profile): what is told of their transactions, or the first fault.
-use Rattle.std.specs.Prelude.{ℕ, ◌+◌, ◌^◌, nat_lt, true, List, [], ◌∷◌, ◌++◌, length, map, replicate, Option, None, Some, Result, Ok, Err, if◌then◌else◌}
+use Rattle.std.specs.Prelude.{ℕ, ◌+◌, ◌-◌, ◌^◌, nat_lt, true, List, [], ◌∷◌, ◌++◌, length, map, replicate, Option, None, Some, Result, Ok, Err, if◌then◌else◌}
 use Rattle.list_laws.specs.Outcome.{◌>>=◌}
 use Rattle.item_readers.specs.Reading.{Reading}
 use Rattle.vevent.specs.EventValue.{EventValue}
+use Rattle.log_groups.specs.declared.fault.GroupFault.TheVariants.{StillPrepared}
+use Rattle.log_groups.specs.Group.{WaitingValue, still_waits}
 use Rattle.log_course.specs.declared.fault.CourseFault.{CourseFault}
+use Rattle.log_course.specs.declared.fault.CourseFault.TheVariants.{Group}
 use Rattle.log_course.specs.Course.{PlacedValue, course_at}
 use Rattle.log_feed.specs.declared.table.Stage.TheVariants.{Absent}
 use Rattle.log_feed.specs.Table.{table_value}
@@ -27,14 +30,18 @@ up_to file (Some fault) x = Err (Course file fault)
 abbrev pub course_told : ℕ → SourceTables → Reading PlacedValue CourseFault → Far → Result Messages LogsFault
 course_told file s r far = of_tell file (groups_told s r.items far) >>= λ x. up_to file r.fault x
 
--- what is told of the file
-abbrev pub log_told : ℕ → SourceTables → List ℕ → Far → Result Messages LogsFault
-log_told file s bytes far = of_course file (course_at far.reached bytes) >>= λ r. course_told file s r far
+-- what is told of the file, where these XA transactions wait before it, and what waits behind it
+abbrev pub log_told : ℕ → SourceTables → List WaitingValue → List ℕ → Far → Result (Messages × List WaitingValue) LogsFault
+log_told file s waiting bytes far = of_course file (course_at far.reached waiting bytes) >>= λ r. course_told file s r.groups far >>= λ x. Ok (x, r.waiting)
+
+-- behind the last file, which is the one before this place, nothing may wait that changes anything
+abbrev pub none_waits : ℕ → List WaitingValue → Result (Unit {0}) LogsFault
+none_waits file waiting = if still_waits waiting then Err (Course (file - 1) (Group StillPrepared)) else Ok tt
 
 -- and of others behind it
-unfoldable pub logs_told : ℕ → SourceTables → List (List ℕ) → Far → Result Messages LogsFault
-logs_told file s [] far = Ok ([], far)
-logs_told file s (bytes ∷ logs) far = log_told file s bytes far >>= λ x. logs_told (file + 1) s logs x.1 >>= λ y. Ok (x.0 ++ y.0, y.1)
+unfoldable pub logs_told : ℕ → SourceTables → List WaitingValue → List (List ℕ) → Far → Result Messages LogsFault
+logs_told file s waiting [] far = none_waits file waiting >>= λ _. Ok ([], far)
+logs_told file s waiting (bytes ∷ logs) far = log_told file s waiting bytes far >>= λ x. logs_told (file + 1) s x.1 logs x.0.1 >>= λ y. Ok (x.0.0 ++ y.0, y.1)
 
 -- at the beginning no position is reached, and no table is made
 abbrev pub nothing_told : SourceTables → Far
@@ -42,7 +49,7 @@ nothing_told s = record { reached = []; stages = replicate (length s.tables) Abs
 
 -- the messages of the feed, each as its events; behind the last file the position that was reached
 abbrev pub feed_told : SourceTables → List (List ℕ) → Result (List (List EventValue)) LogsFault
-feed_told s logs = logs_told 0 s logs (nothing_told s) >>= λ x. of_tell (length logs) (last_told s x.1) >>= λ last. Ok (x.0 ++ last)
+feed_told s logs = logs_told 0 s [] logs (nothing_told s) >>= λ x. of_tell (length logs) (last_told s x.1) >>= λ last. Ok (x.0 ++ last)
 
 -- bytes that are within what a feed has
 abbrev pub short_feed : ℕ → List ℕ → Result (List ℕ) LogsFault

@@ -1,10 +1,11 @@
 //! What logs tell behind a feed that is there.
 
-ghost use Rattle.std.specs.Prelude.{◌≡◌, ℕ, List, map, option_map, IfOk};
+ghost use Rattle.std.specs.Prelude.{◌≡◌, ℕ, List, [], map, option_map, IfOk};
 ghost use Rattle.list_laws.specs.Outcome.{GivesUnless};
 ghost use Rattle.gtid_set.specs.Position.{union_of};
 ghost use Rattle.log_tables.specs.TableMap.{map_value};
 ghost use Rattle.log_groups.specs.Transaction.{done_value};
+ghost use Rattle.log_groups.specs.GroupCalls.{waiting_value};
 ghost use Rattle.log_course.specs.Calls.{placed_value};
 ghost use Rattle.log_course.specs.Fault.{meant as course_meant};
 ghost use Rattle.log_feed.specs.Fault.{meant as change_meant};
@@ -16,19 +17,19 @@ ghost use Rattle.log_transcribe.specs.Fault.{meant, behind_meant, of_tell, feed_
 ghost use Rattle.log_transcribe.specs.Transcript.{source_value};
 ghost use Rattle.log_transcribe.specs.Behind.{had_by, change_had, changes_had, moved, told_far, taken_far, group_behind, log_behind, logs_behind, listed_first, first_list, begun_by, begun, unsaid, along_of, behind_told, bytes_behind, behind_of_logs};
 ghost use Rattle.log_transcribe.specs.Further.{IsFeedBehind};
-ghost use Rattle.log_transcribe.specs.Private.Bytes.{with_messages, bytes_told};
+ghost use Rattle.log_transcribe.specs.Private.Bytes.{with_messages, with_waiting, bytes_told, KeepsWaiting};
 ghost use Rattle.log_transcribe.specs.Private.Goes.{with_going, rest_told, GoesNext};
 
 use crate::apart::overlaps;
 use crate::fault::{BehindError, BehindFault, LogsError, LogsFault};
 use crate::said::{end_of, stages_of, table_of};
-use crate::transcript::{FeedSource, Transcript, copy_of, of_change, of_course};
+use crate::transcript::{FeedSource, Transcript, copy_of, none_waits, of_change, of_course};
 use event_laws::{opened_feeds_are_whole, whole_feeds_are_cuts, whole_goes_behind_whole};
 use gtid_set::{GtidSet, union_is_the_least_set_over_both, within_is_subset};
 use log_course::{CourseError, CourseFault, LogGroups, PlacedGroup, courses_are_read};
 use log_events::{CrcTable, Events, log_of};
 use log_feed::{ChangeError, ChangeFault, FeedTable, GroupWriter, Stage, Trouble};
-use log_groups::{Done, GroupFault};
+use log_groups::{Done, GroupFault, Waiting};
 use log_laws::{
     courses_rise, ends_are_told, feeds_have_their_groups, messages_are_read, transactions_are_told,
     transactions_reach,
@@ -253,6 +254,7 @@ impl<'t, 'w> Sequel<'t, 'w> {
         groups: &mut LogGroups<'_, '_>,
     ) -> Result<bool, LogsError>
         ensures told { GoesNext file self.old.source self.old.had groups.old.groups result groups.new.groups self.old.along self.new.along out.old.items out.new.items }
+        ensures waiting { KeepsWaiting groups.old result groups.new }
         ensures source { self.new.source ≡ self.old.source }
         ensures had { self.new.had ≡ self.old.had }
     {
@@ -266,15 +268,16 @@ impl<'t, 'w> Sequel<'t, 'w> {
         }
     }
 
-    /// Goes on behind the transactions of the file at a place.
-    fn put_groups(
+    /// Goes on behind the transactions of the file at a place, and answers what waits behind it.
+    fn put_groups<'b>(
         &mut self,
         alloc: Global,
         out: &mut Vec<u8>,
         file: usize,
-        groups: LogGroups<'_, '_>,
-    ) -> Result<(), LogsError>
-        ensures told { GivesUnless meant (λ x. (out.new.items, self.new.along)) result (rest_told file self.old.source self.old.had groups.entry.groups self.old.along out.old.items) }
+        groups: LogGroups<'_, 'b>,
+    ) -> Result<Vec<Waiting<'b>>, LogsError>
+        ensures told { GivesUnless meant (λ _. (out.new.items, self.new.along)) result (rest_told file self.old.source self.old.had groups.entry.groups self.old.along out.old.items) }
+        ensures waiting { IfOk result (λ waiting. map waiting_value waiting.items ≡ groups.entry.waiting) }
         ensures source { self.new.source ≡ self.old.source }
         ensures had { self.new.had ≡ self.old.had }
     {
@@ -283,7 +286,7 @@ impl<'t, 'w> Sequel<'t, 'w> {
             match self.put_next(alloc, out, file, &mut groups) {
                 Ok(more) => {
                     if !more {
-                        return Ok(());
+                        return Ok(groups.into_waiting());
                     }
                 }
                 Err(error) => return Err(error),
@@ -291,21 +294,22 @@ impl<'t, 'w> Sequel<'t, 'w> {
         }
     }
 
-    /// Goes on behind the file at a place.
-    fn put_log(
+    /// Goes on behind the file at a place, where these XA transactions wait before it, and answers what waits behind it.
+    fn put_log<'b>(
         &mut self,
         alloc: Global,
         out: &mut Vec<u8>,
         table: &CrcTable,
         file: usize,
-        bytes: &[u8],
-    ) -> Result<(), LogsError>
-        ensures told { GivesUnless meant (λ x. (out.new.items, self.new.along)) result (with_going (log_behind file self.old.source self.old.had bytes.now self.old.along) out.old.items) }
+        waiting: Vec<Waiting<'b>>,
+        bytes: &'b [u8],
+    ) -> Result<Vec<Waiting<'b>>, LogsError>
+        ensures told { GivesUnless meant (λ left. ((out.new.items, self.new.along), map waiting_value left.items)) result (with_waiting (log_behind file self.old.source self.old.had (map waiting_value waiting.entry.items) bytes.now self.old.along) out.old.items) }
         ensures source { self.new.source ≡ self.old.source }
         ensures had { self.new.had ≡ self.old.had }
     {
         let reached = copy_of(alloc, &self.logs)?;
-        match LogGroups::open(alloc, table, reached, bytes) {
+        match LogGroups::open(alloc, table, reached, waiting, bytes) {
             Ok(groups) => self.put_groups(alloc, out, file, groups),
             Err(error) => Err(of_course(file, error)),
         }
@@ -319,16 +323,18 @@ impl<'t, 'w> Sequel<'t, 'w> {
         table: &CrcTable,
         logs: &[&[u8]],
     ) -> Result<(), LogsError>
-        ensures told { GivesUnless meant (λ x. (out.new.items, self.new.along)) result (with_going (logs_behind 0 self.old.source self.old.had (map (λ log. log.now) logs.now) self.old.along) out.old.items) }
+        ensures told { GivesUnless meant (λ x. (out.new.items, self.new.along)) result (with_going (logs_behind 0 self.old.source self.old.had [] (map (λ log. log.now) logs.now) self.old.along) out.old.items) }
         ensures source { self.new.source ≡ self.old.source }
         ensures had { self.new.had ≡ self.old.had }
     {
+        let mut waiting = Vec::new(alloc);
         for file in 0..logs.len() {
-            if let Err(error) = self.put_log(alloc, out, table, file, logs[file]) {
-                return Err(error);
+            match self.put_log(alloc, out, table, file, waiting, logs[file]) {
+                Ok(left) => waiting = left,
+                Err(error) => return Err(error),
             }
         }
-        Ok(())
+        none_waits(logs.len(), &waiting)
     }
 }
 

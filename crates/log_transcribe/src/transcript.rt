@@ -3,20 +3,22 @@
 ghost use Rattle.std.specs.Prelude.{◌≡◌, ◌++◌, [], ◌∷◌, List, length, map, replicate, option_map, IfOk, OnOk};
 ghost use Rattle.list_laws.specs.Outcome.{GivesUnless};
 ghost use Rattle.log_feed.specs.declared.table.Stage.TheVariants.{Absent};
+ghost use Rattle.log_groups.specs.GroupCalls.{waiting_value};
 ghost use Rattle.log_course.specs.Calls.{placed_value};
 ghost use Rattle.log_laws.specs.Source.{IsSource};
 ghost use Rattle.log_laws.specs.Transcript.{group_told, last_told};
 ghost use Rattle.log_transcribe.specs.Fault.{meant, of_tell};
-ghost use Rattle.log_transcribe.specs.Transcript.{source_value, course_told, log_told, logs_told, nothing_told, feed_told, feed_of_logs};
+ghost use Rattle.log_transcribe.specs.Transcript.{source_value, course_told, log_told, none_waits, logs_told, nothing_told, feed_told, feed_of_logs};
 ghost use Rattle.log_transcribe.specs.Feed.{IsFeedOfLogs};
-ghost use Rattle.log_transcribe.specs.Private.Bytes.{course_error_at, change_error_at, tell_error_at, with_messages, last_with, bytes_told, PutsNext};
+ghost use Rattle.log_transcribe.specs.Private.Bytes.{course_error_at, change_error_at, tell_error_at, with_messages, with_waiting, last_with, bytes_told, PutsNext, KeepsWaiting};
 
 use crate::fault::{LogsError, LogsFault, TellError};
 use crate::message::{put_events, put_last};
 use gtid_set::GtidSet;
-use log_course::{CourseError, LogGroups, PlacedGroup, courses_are_read};
+use log_course::{CourseError, CourseFault, LogGroups, PlacedGroup, courses_are_read};
 use log_events::CrcTable;
 use log_feed::{ChangeError, FeedTable, GroupWriter, Stage};
+use log_groups::{GroupFault, Waiting, any_waits};
 use log_laws::{
     TellFault, courses_rise, ends_are_told, feeds_have_their_groups, messages_are_read,
     transactions_are_told, transactions_reach,
@@ -87,6 +89,17 @@ pub(crate) fn of_change(file: usize, error: ChangeError) -> LogsError
     }
 }
 
+/// Nothing waits that changes anything behind the last file, which is the one before this place.
+pub(crate) fn none_waits(file: usize, waiting: &[Waiting<'_>]) -> Result<(), LogsError>
+    ensures { GivesUnless meant (λ x. x) result (none_waits file (map waiting_value waiting.now)) }
+{
+    if any_waits(waiting) {
+        let fault = CourseFault::Group(GroupFault::StillPrepared);
+        return Err(LogsError::Fault(LogsFault::Course(file.saturating_sub(1), fault)));
+    }
+    Ok(())
+}
+
 /// What is wrong with a transaction of it.
 fn of_tell(file: usize, error: TellError) -> LogsError
     ensures { result ≡ tell_error_at file error }
@@ -139,6 +152,7 @@ impl<'t, 'w> Transcript<'t, 'w> {
         groups: &mut LogGroups<'_, '_>,
     ) -> Result<bool, LogsError>
         ensures told { PutsNext file self.old.source groups.old.groups result groups.new.groups self.old.far self.new.far out.old.items out.new.items }
+        ensures waiting { KeepsWaiting groups.old result groups.new }
         ensures source { self.new.source ≡ self.old.source }
     {
         match groups.next_group(alloc) {
@@ -151,15 +165,16 @@ impl<'t, 'w> Transcript<'t, 'w> {
         }
     }
 
-    /// Appends the messages of the transactions of the file at a place.
-    fn put_groups(
+    /// Appends the messages of the transactions of the file at a place, and answers what waits behind it.
+    fn put_groups<'b>(
         &mut self,
         alloc: Global,
         out: &mut Vec<u8>,
         file: usize,
-        groups: LogGroups<'_, '_>,
-    ) -> Result<(), LogsError>
-        ensures told { GivesUnless meant (λ x. (out.new.items, self.new.far)) result (with_messages (course_told file self.old.source groups.entry.groups self.old.far) out.old.items) }
+        groups: LogGroups<'_, 'b>,
+    ) -> Result<Vec<Waiting<'b>>, LogsError>
+        ensures told { GivesUnless meant (λ _. (out.new.items, self.new.far)) result (with_messages (course_told file self.old.source groups.entry.groups self.old.far) out.old.items) }
+        ensures waiting { IfOk result (λ waiting. map waiting_value waiting.items ≡ groups.entry.waiting) }
         ensures source { self.new.source ≡ self.old.source }
     {
         let mut groups = groups;
@@ -167,7 +182,7 @@ impl<'t, 'w> Transcript<'t, 'w> {
             match self.put_next(alloc, out, file, &mut groups) {
                 Ok(more) => {
                     if !more {
-                        return Ok(());
+                        return Ok(groups.into_waiting());
                     }
                 }
                 Err(error) => return Err(error),
@@ -175,20 +190,22 @@ impl<'t, 'w> Transcript<'t, 'w> {
         }
     }
 
-    /// Appends the messages of the file at a place.
-    fn put_log(
+    /// Appends the messages of the file at a place, where these XA transactions wait before it, and answers what waits
+    /// behind it.
+    fn put_log<'b>(
         &mut self,
         alloc: Global,
         out: &mut Vec<u8>,
         table: &CrcTable,
         file: usize,
-        bytes: &[u8],
-    ) -> Result<(), LogsError>
-        ensures told { GivesUnless meant (λ x. (out.new.items, self.new.far)) result (with_messages (log_told file self.old.source bytes.now self.old.far) out.old.items) }
+        waiting: Vec<Waiting<'b>>,
+        bytes: &'b [u8],
+    ) -> Result<Vec<Waiting<'b>>, LogsError>
+        ensures told { GivesUnless meant (λ left. ((out.new.items, self.new.far), map waiting_value left.items)) result (with_waiting (log_told file self.old.source (map waiting_value waiting.entry.items) bytes.now self.old.far) out.old.items) }
         ensures source { self.new.source ≡ self.old.source }
     {
         let reached = copy_of(alloc, &self.reached)?;
-        match LogGroups::open(alloc, table, reached, bytes) {
+        match LogGroups::open(alloc, table, reached, waiting, bytes) {
             Ok(groups) => self.put_groups(alloc, out, file, groups),
             Err(error) => Err(of_course(file, error)),
         }
@@ -202,16 +219,19 @@ impl<'t, 'w> Transcript<'t, 'w> {
         table: &CrcTable,
         logs: &[&[u8]],
     ) -> Result<(), LogsError>
-        ensures told { GivesUnless meant (λ x. (out.new.items, self.new.far)) result (with_messages (logs_told 0 self.old.source (map (λ log. log.now) logs.now) self.old.far) out.old.items) }
+        ensures told { GivesUnless meant (λ x. (out.new.items, self.new.far)) result (with_messages (logs_told 0 self.old.source [] (map (λ log. log.now) logs.now) self.old.far) out.old.items) }
         ensures source { self.new.source ≡ self.old.source }
     {
+        let mut waiting = Vec::new(alloc);
         for file in 0..logs.len() {
-            if let Err(error) = self.put_log(alloc, out, table, file, logs[file]) {
-                return Err(error);
+            match self.put_log(alloc, out, table, file, waiting, logs[file]) {
+                Ok(left) => waiting = left,
+                Err(error) => return Err(error),
             }
         }
-        Ok(())
+        none_waits(logs.len(), &waiting)
     }
+
     /// The bytes with the message of the position that was reached, where it isn't said, behind them; `file` is the place
     /// behind the last file.
     pub(crate) fn with_last(
@@ -282,7 +302,7 @@ fn written_of(
 
 /// The feed of logs, one file behind another: a message for each transaction that has rows of the feed's tables, and at the end
 /// one for the position that was reached, where the last message has another. Each log is the bytes of a whole file; the first
-/// one has to begin with no position. An error is the first fault of the logs, with its file and, where it is of one, its
+/// one has to begin with no position. An XA transaction may be prepared in one and end in another. An error is the first fault of the logs, with its file and, where it is of one, its
 /// table; behind all of them that the feed would be too long; or want of memory. Takes memory for the feed and for one
 /// transaction at a time.
 pub fn transcribe(

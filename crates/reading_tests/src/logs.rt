@@ -10,3 +10,4 @@ mod sets;
 mod tables;
 mod transcribe;
 mod values;
+mod waiting;

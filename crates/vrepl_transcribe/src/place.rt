@@ -6,16 +6,17 @@ use gtid_set::GtidSet;
 use log_course::{CourseError, CourseFault, LogGroups};
 use log_events::{CrcTable, LogFault};
 use log_feed::{ChangeError, GroupWriter, Stage};
-use log_groups::GroupFault;
+use log_groups::{GroupFault, Waiting};
 use log_laws::TellFault;
 use log_transcribe::{FeedSource, LogsFault};
 use std::alloc::{AllocError, Global};
 
 /// What was found in a file.
 #[derive(Drop)]
-enum Found {
-    /// No fault, and the position that was reached.
-    Nothing(GtidSet),
+enum Found<'b> {
+    /// No fault up to its end: the position that was reached, the XA transactions that are prepared, and how many of its bytes
+    /// were read.
+    Nothing(GtidSet, Vec<Waiting<'b>>, usize),
     /// A fault at this byte.
     At(usize),
 }
@@ -34,7 +35,6 @@ fn place_at_begin(bytes: &[u8], fault: CourseFault) -> usize {
 fn place_inside(bytes: &[u8], begin: usize, end: usize, fault: CourseFault) -> usize {
     match fault {
         CourseFault::Group(GroupFault::Event(_)) => end,
-        CourseFault::Group(GroupFault::StillPrepared) => end,
         CourseFault::Group(GroupFault::Unended | GroupFault::Twice | GroupFault::NotPrepared) =>
             first_of_transaction(bytes, begin),
         CourseFault::Group(_) => last_before(bytes, begin, end),
@@ -47,13 +47,13 @@ fn bytes_read(bytes: &[u8], groups: &LogGroups<'_, '_>) -> usize {
     bytes.len().saturating_sub(groups.bytes_left())
 }
 
-/// The fault of a file's transactions, or the position that they reach.
-fn find_in(
+/// The fault of a file's transactions, or where they end.
+fn find_in<'b>(
     alloc: Global,
     writer: &mut GroupWriter<'_, '_>,
-    bytes: &[u8],
-    groups: LogGroups<'_, '_>,
-) -> Result<Found, AllocError> {
+    bytes: &'b [u8],
+    groups: LogGroups<'_, 'b>,
+) -> Result<Found<'b>, AllocError> {
     let mut groups = groups;
     let mut begin = bytes_read(bytes, &groups);
     for _ in 0..bytes.len() {
@@ -65,7 +65,7 @@ fn find_in(
                     return Ok(Found::At(first_of_transaction(bytes, begin)));
                 }
             },
-            Ok(None) => return reached_by(alloc, &groups),
+            Ok(None) => return end_of(alloc, bytes, groups),
             Err(CourseError::Memory) => return Err(AllocError),
             Err(CourseError::Fault(fault)) => {
                 let end = bytes_read(bytes, &groups);
@@ -76,23 +76,29 @@ fn find_in(
     Ok(Found::At(bytes.len()))
 }
 
-/// The position that a file's transactions reach.
-fn reached_by(alloc: Global, groups: &LogGroups<'_, '_>) -> Result<Found, AllocError> {
+/// Where a file ends whose transactions have no fault.
+fn end_of<'b>(
+    alloc: Global,
+    bytes: &[u8],
+    groups: LogGroups<'_, 'b>,
+) -> Result<Found<'b>, AllocError> {
+    let read = bytes_read(bytes, &groups);
     match groups.reached().try_clone(alloc) {
-        Ok(reached) => Ok(Found::Nothing(reached)),
+        Ok(reached) => Ok(Found::Nothing(reached, groups.into_waiting(), read)),
         Err(_) => Err(AllocError),
     }
 }
 
-/// The same of a file, where this position was reached before it.
-fn find(
+/// The same of a file, where this position was reached before it and these XA transactions wait.
+fn find<'b>(
     alloc: Global,
     table: &CrcTable,
     writer: &mut GroupWriter<'_, '_>,
     reached: GtidSet,
-    bytes: &[u8],
-) -> Result<Found, AllocError> {
-    match LogGroups::open(alloc, table, reached, bytes) {
+    waiting: Vec<Waiting<'b>>,
+    bytes: &'b [u8],
+) -> Result<Found<'b>, AllocError> {
+    match LogGroups::open(alloc, table, reached, waiting, bytes) {
         Ok(groups) => find_in(alloc, writer, bytes, groups),
         Err(CourseError::Memory) => Err(AllocError),
         Err(CourseError::Fault(fault)) => Ok(Found::At(place_at_begin(bytes, fault))),
@@ -114,6 +120,14 @@ fn is_of_no_event(fault: LogsFault) -> bool {
     )
 }
 
+/// Where the last file is at fault, which is without one up to its end: what waits there.
+fn place_at_end(fault: LogsFault, end: usize) -> Option<usize> {
+    match fault {
+        LogsFault::Course(_, CourseFault::Group(GroupFault::StillPrepared)) => Some(end),
+        _ => None,
+    }
+}
+
 /// The byte at which a fault of the logs stands in its file; `None` where it is of no event. An error is want of memory.
 pub(crate) fn place_of(
     alloc: Global,
@@ -128,11 +142,17 @@ pub(crate) fn place_of(
     let stages = absent(alloc, source.tables.len())?;
     let mut writer = GroupWriter::new(source.schema, source.tables, stages);
     let mut reached = GtidSet::new();
+    let mut waiting = Vec::new(alloc);
+    let mut read = 0;
     for bytes in logs {
-        match find(alloc, &table, &mut writer, reached, bytes)? {
-            Found::Nothing(next) => reached = next,
+        match find(alloc, &table, &mut writer, reached, waiting, bytes)? {
+            Found::Nothing(next, left, end) => {
+                reached = next;
+                waiting = left;
+                read = end;
+            }
             Found::At(place) => return Ok(Some(place)),
         }
     }
-    Ok(None)
+    Ok(place_at_end(fault, read))
 }

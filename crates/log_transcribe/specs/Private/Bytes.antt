@@ -6,10 +6,12 @@ use Rattle.gtid_set.specs.declared.interval.Interval.{Interval}
 use Rattle.vevent.specs.EventValue.{EventValue, Begin, Commit}
 use Rattle.vevent.specs.WrittenEvent.{written_event}
 use Rattle.event_laws.specs.WrittenMessages.{written_response, framed}
+use Rattle.log_groups.specs.Group.{WaitingValue}
 use Rattle.log_course.specs.declared.fault.CourseFault.{CourseFault}
 use Rattle.log_course.specs.declared.fault.CourseError as course_errors
 use Rattle.log_course.specs.declared.fault.CourseError.TheVariants as course_error
 use Rattle.log_course.specs.Course.{PlacedValue}
+use Rattle.log_course.specs.Calls.{CourseValue}
 use Rattle.log_feed.specs.declared.fault.ChangeError as change_errors
 use Rattle.log_feed.specs.declared.fault.ChangeError.TheVariants as change_error
 use Rattle.log_laws.specs.declared.fault.TellFault.{TellFault}
@@ -71,6 +73,11 @@ abbrev pub with_messages : {F : Type 0} → Result Messages F → List ℕ → R
 with_messages (Ok x) out = Ok (out ++ written x.0, x.1)
 with_messages (Err fault) out = Err fault
 
+-- with what waits behind them
+abbrev pub with_waiting : {F S : Type 0} → Result ((List (List EventValue) × S) × List WaitingValue) F → List ℕ → Result ((List ℕ × S) × List WaitingValue) F
+with_waiting (Ok x) out = Ok ((out ++ written x.0.0, x.0.1), x.1)
+with_waiting (Err fault) out = Err fault
+
 -- the same of the last ones
 abbrev pub last_with : {F : Type 0} → Result (List (List EventValue)) F → List ℕ → Result (List ℕ) F
 last_with (Ok messages) out = Ok (out ++ written messages)
@@ -87,3 +94,9 @@ PutsNext file s old (Ok true) new far next_far out next =
     (with_messages (course_told file s old far) out ≡ with_messages (course_told file s new next_far) next) × (length new.items < length old.items)
 PutsNext file s old (Ok false) new far next_far out next = with_messages (course_told file s old far) out ≡ Ok (next, next_far)
 PutsNext file s old (Err error) new far next_far out next = Refuses meant error (with_messages (course_told file s old far) out)
+
+-- and of what waits behind the file: it stays the same, and where there was none no group is to come
+abbrev pub KeepsWaiting : CourseValue → Result Bool LogsError → CourseValue → Type 0
+KeepsWaiting old (Ok true) new = new.waiting ≡ old.waiting
+KeepsWaiting old (Ok false) new = (new.waiting ≡ old.waiting) × (new.groups.items ≡ []) × (new.groups.fault ≡ None)
+KeepsWaiting old (Err error) new = Unit {0}

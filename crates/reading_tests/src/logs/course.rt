@@ -16,7 +16,7 @@ fn read<'x>(
     reached: GtidSet,
 ) -> Result<(Vec<u8>, String, Option<CourseFault>), AllocError> {
     let mut found = Vec::new(alloc);
-    let mut log = match LogGroups::open(alloc, table, reached, bytes) {
+    let mut log = match LogGroups::open(alloc, table, reached, Vec::new(alloc), bytes) {
         Ok(log) => log,
         Err(CourseError::Memory) => return Err(AllocError),
         Err(CourseError::Fault(fault)) => return Ok((found, String::new(alloc), Some(fault))),

@@ -63,7 +63,7 @@ fn told<'x>(
     let mut stages = Vec::new(alloc);
     stages.push(stage)?;
     let mut writer = GroupWriter::new(schema, tables, stages);
-    let Ok(mut log) = LogGroups::open(alloc, crc, GtidSet::new(), bytes) else {
+    let Ok(mut log) = LogGroups::open(alloc, crc, GtidSet::new(), Vec::new(alloc), bytes) else {
         return Err(AllocError);
     };
     for _ in 0..10 {

@@ -49,7 +49,7 @@ fn tables_of(
 }
 
 /// The feed of logs of a table of this name, whose second column is of this type.
-fn feed_of(
+pub(crate) fn feed_of(
     alloc: Global,
     name: &'static str,
     number: u32,
@@ -141,7 +141,7 @@ fn logs_with_a_turned_bit(rt: HostRuntime) -> Result<(), AllocError> {
 }
 
 /// What logs have behind a feed of the table, whose second column is of this type.
-fn behind_of(
+pub(crate) fn behind_of(
     alloc: Global,
     number: u32,
     feed: &[u8],
