@@ -6,7 +6,7 @@ usage: bench/checkpoint/nights.py PROGRAM [NIGHTS [MEGABYTES [NIGHTLY]]]       3
 The feed has so many megabytes of rows of 500 bytes, a thousand a group, and each night one more of changes, four a group: most are
 updates, and as many rows come as go. A night is `compact`, into the feed's own file. Beside it stands `run` over the feed that it reads,
 into a file of the same folder. Each line is of one night: the feed's bytes before and behind its compaction, and the processor time and
-the peak memory of both; the last line is the least and the most of all nights. It ends where a compacted feed has more than the bytes of
+the peak memory of both; the last line is the least and the most of all nights, and the mean. It ends where a compacted feed has more than the bytes of
 its rows and 65,536; where in a night that has a line `run` over it prints other rows than over the feed before; and where the last one's
 rows aren't those of all that was ever recorded.
 """
@@ -138,9 +138,12 @@ def line(night, seen):
         least, most = form(min(values)), form(max(values))
         return least if least == most else f"{least} to {most}"
 
+    def mean(values):
+        return f", on average {sum(values) / len(values):.2f}" if len(values) > 1 else ""
+
     sizes = [spread([one[at] for one in seen], lambda it: f"{it:,}") for at in (0, 1)]
     used = [[one[at] for one in seen] for at in (2, 3)]
-    times = [spread([seconds for seconds, _ in of], lambda it: f"{it:.2f}") + " s" for of in used]
+    times = [spread([seconds for seconds, _ in of], lambda it: f"{it:.2f}") + " s" + mean([seconds for seconds, _ in of]) for of in used]
     peaks = " / ".join(f"{max(memory for _, memory in of) / 1e6:.0f}" for of in used)
     print("| " + " | ".join([night, *sizes, *times, f"{peaks} MB"]) + " |", flush=True)
 
