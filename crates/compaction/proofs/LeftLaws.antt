@@ -1,6 +1,7 @@
 -- What a group's touches leave, one group on.
 use Rattle.std.proofs.Common.{◌≡◌, ◌==◌, ℕ, ◌+◌, ◌<◌, ◌≤◌, Bool, cond, List, [], ◌∷◌, ◌++◌, length, map, take, Option, Some, None, Ok, slice_get, refl, sym, ap, ◌∙◌, arith}
-use Rattle.std.specs.Prelude.{IfSome}
+use Rattle.std.specs.Prelude.{IfSome, IsOk, Result, Err}
+use Rattle.std.proofs.lemmas.Bool.{false≢true}
 use Rattle.std.specs.declared.cmp.Ordering.TheVariants.{Less}
 use Rattle.std.specs.List.{AllByRecursion}
 use Rattle.std.specs.Option.{option_or, option_map, option_and_then}
@@ -19,6 +20,7 @@ use Rattle.source_feed.specs.History.{RowValue, touches_in}
 use Rattle.source_feed.specs.Image.{ImageRows, row_in}
 use Rattle.source_feed.specs.Planned.{FeedValue}
 use Rattle.source_feed.specs.SoundGroups.{sound_groups, AreFirst}
+use Rattle.source_feed.specs.declared.fault.FeedFault.{FeedFault}
 use Rattle.source_feed.specs.Touches.{PutValue, TouchValue, PreparedValue, prepared_at}
 use Rattle.source_feed.proofs.ImageLaws.{last_at-append, take-next}
 use Rattle.source_feed.proofs.SoundGroupLaws.{first_more}
@@ -120,6 +122,21 @@ next_group feed i group inside le e =
     let ends : group ∷ [] ≡ there.0 ∷ [] = append_cancel_left (take i groups) (group ∷ []) (there.0 ∷ []) (more.are ∙ take-next groups i there.0 there.1) in
     let same : Some group ≡ Some there.0 = ap (λ (xs : List PreparedValue). slice_get xs 0) ends in
     (more.sound, there.1 ∙ sym same)
+
+-- a result ends in one error alone
+pub one_error : {A E : Type 0} (r : Result A E) (x y : E) → r ≡ Err x → r ≡ Err y → x ≡ y
+one_error r x y e f = cc
+
+-- where one is prepared behind sound groups, some are sound
+pub some_sound : (feed : FeedValue) (i : ℕ) (group : PreparedValue) → i < length feed.groups → i ≤ length (sound_groups feed) → prepared_at feed (i + 1) ≡ Ok group → 0 < length (sound_groups feed)
+some_sound feed i group inside le e = let more = (next_group feed i group inside le e).0 in omega (arith, more)
+
+pub some_sound-ok : (feed : FeedValue) (i : ℕ) → i < length feed.groups → i ≤ length (sound_groups feed) → IsOk (prepared_at feed (i + 1)) → 0 < length (sound_groups feed)
+some_sound-ok feed i inside le ok = by (prepared_at feed (i + 1)) refl ok
+  where
+    by : (r : Result PreparedValue FeedFault) → prepared_at feed (i + 1) ≡ r → IsOk r → 0 < length (sound_groups feed)
+    by (Ok group) e is = some_sound feed i group inside le e
+    by (Err fault) e is = absurd (false≢true is)
 
 pub one_more : (feed : FeedValue) (i : ℕ) (group seen : PreparedValue) (old new : ImageRows) → i < length feed.groups → prepared_at feed (i + 1) ≡ Ok group → seen ≡ group
     → ((history : List PreparedValue) (n : ℕ) → slice_get history n ≡ Some seen → IsLeft history n old → IsLeft history (n + 1) new) → AreLeft feed i old → AreLeft feed (i + 1) new

@@ -1,8 +1,8 @@
 //! A feed whose first groups are compacted.
 
-ghost use Rattle.std.specs.Prelude.{◌≡◌, IfErr, IfOk, Ok};
+ghost use Rattle.std.specs.Prelude.{◌≡◌, ◌⊎◌, IfErr, IfOk, Ok, Err};
 ghost use Rattle.source_feed.specs.Planned.{groups_under};
-ghost use Rattle.compaction.specs.Compacting.{IsCause, IsCompaction};
+ghost use Rattle.compaction.specs.Compacting.{HasGroup, IsCause, IsCompaction};
 ghost use Rattle.compaction.specs.Private.Written.{AreNamed, IsWrittenOver};
 
 use crate::base::{push_rows, write_end, write_fields, write_others};
@@ -38,7 +38,7 @@ pub struct Compaction<'h> {
 /// before that. A group is a part of the work for each time that it is looked at. The new feed lends its rows, and what stands
 /// behind the base, from the bytes.
 ///
-/// Refused in this order: `NoCut` where the feed has no such group; `UnknownTable` where changes of tables that the plan
+/// Refused in this order: `NoCut` where the feed has no such group, whatever memory there is; `UnknownTable` where changes of tables that the plan
 /// lacks would be lost and aren't to be left out; `Unsound` for the first of the groups that isn't sound; `TooLong` where
 /// what would be written is beyond the limits. Any other error is want of memory.
 pub fn compact<'h, M: Meter>(
@@ -55,6 +55,8 @@ pub fn compact<'h, M: Meter>(
     ensures exact { IfOk result (λ made. made.groups ≡ number) }
     // What a refusal says stands in the feed, and what an earlier one says doesn't.
     ensures cause { IfErr result (IsCause feed.now bytes.now unknown number) }
+    // That the feed has no such group is told whatever memory there is.
+    ensures none { (result ≡ Err CompactFault.NoCut) ⊎ HasGroup feed.now number }
 {
     bytes_are_compacted();
     left_rows_have_columns();

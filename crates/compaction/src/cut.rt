@@ -1,13 +1,13 @@
 //! Where a feed is cut, and what would be lost there.
 
-ghost use Rattle.std.specs.Prelude.{◌≡◌, ℕ, List, take, IfErr, IfOk, IsTrue, Ok};
+ghost use Rattle.std.specs.Prelude.{◌≡◌, ◌⊎◌, ℕ, List, take, IfErr, IfOk, IsTrue, Ok, Err};
 ghost use Rattle.std.specs.List.{AllByRecursion, list_any};
 ghost use Rattle.source_feed.specs.GroupValue.{GroupValue};
 ghost use Rattle.source_feed.specs.Groups.{groups};
 ghost use Rattle.source_feed.specs.Planned.{groups_under, source_of};
 ghost use Rattle.feed_bytes.specs.Cut.{IsCutBehind};
 ghost use Rattle.compaction.specs.Private.Written.{IsOfPlan};
-ghost use Rattle.compaction.specs.Compacting.{CutsFeed, IsCause, have_unknown, is_unknown, loses};
+ghost use Rattle.compaction.specs.Compacting.{CutsFeed, HasGroup, IsCause, have_unknown, is_unknown, loses};
 ghost use Rattle.compaction.specs.declared.fault.CompactFault.TheVariants.{Memory};
 
 use crate::fault::CompactFault;
@@ -130,7 +130,7 @@ fn parts_of(
 
 /// Cuts a feed behind its group of a number, from 1. That these are the feed's bytes is the caller's.
 ///
-/// Refused as `NoCut` where the feed has no such group, and as `UnknownTable` where changes would be lost that aren't to be
+/// Refused as `NoCut` where the feed has no such group, whatever memory there is, and as `UnknownTable` where changes would be lost that aren't to be
 /// left out. Any other error is want of memory.
 pub(crate) fn cut<'h, M: Meter>(
     alloc: Global,
@@ -143,7 +143,11 @@ pub(crate) fn cut<'h, M: Meter>(
     requires { groups_under bytes.now feed.now.plan ≡ Ok feed.now.groups }
     ensures cuts { IfOk result (λ cut. CutsFeed feed.now bytes.now unknown number cut.fields.items cut.place.now cut.others cut.rest.now) }
     ensures cause { IfErr result (IsCause feed.now bytes.now unknown number) }
+    ensures none { (result ≡ Err CompactFault.NoCut) ⊎ HasGroup feed.now number }
 {
+    if number == 0 || number as usize > feed.len() {
+        return Err(CompactFault::NoCut);
+    }
     let source = source_for(feed);
     let Some(cut) = cut_behind(alloc, bytes, &source, number)? else {
         return Err(CompactFault::NoCut);

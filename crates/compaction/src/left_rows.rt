@@ -1,6 +1,6 @@
 //! The rows that the groups of a source leave, whether or not they pass the filter.
 
-ghost use Rattle.std.specs.Prelude.{◌≡◌, ◌+◌, ◌≤◌, ℕ, List, [], Some, IfOk, IfErr, IfSome, OnOk, OnErr, length, map, slice_get};
+ghost use Rattle.std.specs.Prelude.{◌≡◌, ◌+◌, ◌<◌, ◌≤◌, ℕ, List, [], Some, Err, IfOk, IfErr, IfSome, OnOk, OnErr, length, map, slice_get};
 ghost use Rattle.source_feed.specs.SoundGroups.{sound_groups, StopsBefore};
 ghost use Rattle.source_feed.specs.Touches.{PreparedValue};
 ghost use Rattle.source_feed.specs.FaultNumber.{meant_of};
@@ -102,7 +102,7 @@ impl<'h> LeftRows<'h> {
 /// none, so that memory is taken for the rows and for one group. Each group is a part that is done.
 ///
 /// That the feed has so many groups is the caller's. Refused 90 for the first of them that isn't sound. Any other error is
-/// want of memory.
+/// want of memory, of which none is taken before the first group is known to be sound.
 pub fn rows_up_to<'h, M: Meter>(
     alloc: Global,
     feed: &Feed<'h>,
@@ -114,6 +114,8 @@ pub fn rows_up_to<'h, M: Meter>(
     ensures sound { IfOk result (λ _. number ≤ length (sound_groups feed.now)) }
     ensures left { IfOk result (λ rows. IsLeft (sound_groups feed.now) number rows) }
     ensures refused { IfErr result (λ fault. IfSome (meant_of fault) (StopsBefore feed.now number)) }
+    // Memory is wanted behind a sound group alone: that the first one isn't sound is told whatever memory there is.
+    ensures memory { result ≡ Err FeedFault.Memory → 0 < length (sound_groups feed.now) }
 {
     let mut rows = LeftRows::new(alloc);
     let mut portions = Portions::of(meter);
