@@ -131,7 +131,7 @@ class Source:
     def record(self) -> list[str]:
         replace = ["--replace"] if os.path.exists(self.recorded) else []
         words = ["--socket", self._server.socket, "--user", "root", "--shard", "-", *replace, "--out", self.recorded]
-        return [OWN, os.path.join(ROOT, "record/feed"), *words, *self.tables]
+        return [OWN, os.path.join(ROOT, "record/feed"), "--by-recorder", *words, *self.tables]
 
 
 def size_of(files: list[str]) -> float:

@@ -62,7 +62,7 @@ def measure(name: str, binlog: str, rows: int, rounds: int) -> None:
         fill(server, columns, row, together, int(rows * part), name.startswith("updates"))
         logs = [line.split() for line in server.sql("SHOW BINARY LOGS").stdout.decode().splitlines()]
         size, feed = sum(int(line[1]) for line in logs), os.path.join(server.folder, "b.feed")
-        record = [os.path.join(ROOT, "record/feed"), "--socket", server.socket, "--user", "root", "--shard", "-", "--out", feed]
+        record = [os.path.join(ROOT, "record/feed"), "--by-recorder", "--socket", server.socket, "--user", "root", "--shard", "-", "--out", feed]
         files = [os.path.join(server.folder, "data", line[0]) for line in logs]
         ours, theirs, most = [], [], 0
         for _ in range(rounds):

@@ -77,6 +77,12 @@ class FeedFile:
         """Whether the file is in its place."""
         return self._own == ""
 
+    def with_all(self) -> str:
+        """The name of the file that has all groups of a feed that isn't in its place yet, or that has been put whole."""
+        with writing(self.path):
+            self._aside.flush()
+        return self._own or self.path
+
     @property
     def waits(self) -> bool:
         """Whether there are groups that aren't put yet, and can be."""

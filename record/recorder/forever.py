@@ -13,17 +13,27 @@ from .ending import Ended, Held, Last, tell
 from .events import Event, LogEvent
 from .locks import Lent, locked
 from .note import Note, note_path
+from .position import Until
 from .recording import MINUTE, Recording, Wanted, check_free_or_there, left_as_it_was, recording_of
 from .server import events
-from .stop import AGAIN, Lost, Stop
+from .stop import AGAIN, Lost, Refused, Stop
 from .transactions import Transaction
 
 TOGETHER = 0.25
+LONG = 2
+"""The seconds from which on a reading by the program is said to take long."""
+SHORTER = "a smaller max_binlog_size, record/compact and rows in each table make that less, and --by-recorder reads otherwise"
+MOST_HANDED_OVER = 2
+"""How often one behind the other the recorder reads what the program refuses, before it goes on by itself."""
 FIRST_PAUSE, LONGEST_PAUSE = 0.5, 30
 
 
 class _Altered(Exception):
     """A table of which no row was recorded was altered: its columns have to be read anew."""
+
+
+class _Again(Exception):
+    """What was read here once is in the feed: the program goes on."""
 
 
 class _Asked(Exception):
@@ -50,6 +60,9 @@ class _Forever:
 
     def __init__(self, wanted: Wanted) -> None:
         self._wanted, self._pause, self.has_begun = wanted, FIRST_PAUSE, False
+        self._handed_over, self._told = 0, ""
+        """How often the recorder has read what the program refused, since that last came to the log's end; and why the log is read
+        here, as it was told."""
 
     def with_lock(self) -> Note:
         """Records as long as the feed's lock isn't asked for."""
@@ -58,11 +71,19 @@ class _Forever:
             return self._run()
 
     def _run(self) -> Note:
+        left: Refused | None = None
         while True:
             try:
+                if left:
+                    self._read_here(left)
+                    left = None
                 return self._over_one_connection()
-            except _Altered:
+            except (_Altered, _Again):
                 continue
+            except Refused as refused:
+                if not self._wanted.is_handed_over(refused):
+                    raise
+                left, self._handed_over = refused, self._handed_over + 1
             except Lost as lost:
                 if not self.has_begun:
                     raise
@@ -72,14 +93,40 @@ class _Forever:
 
     def _over_one_connection(self) -> Note:
         with ExitStack() as opened:
-            recording = recording_of(self._wanted, opened)
-            recording.catch_up()
-            recording.check_begun()
-            with Held():
-                recording.put()
-                self._wanted, self._pause, self.has_begun = replace(self._wanted, append=True, from_snapshot=False, behind=False), FIRST_PAUSE, True
-            (_LiveByLog if self._wanted.by_log else _Live)(recording, self._lock).run()
+            wanted, recording = self._wanted, self._caught_up(self._wanted, opened)
+            is_by_log = recording.wanted.by_log is not None
+            if is_by_log:
+                self._handed_over = 0
+            if recording.why_here and recording.why_here != self._told:
+                self._told = recording.why_here
+                wanted.tell(self._told)
+            if recording.is_here_once and not recording.is_done and not recording.pending:
+                raise _Again
+            (_LiveByLog if is_by_log else _Live)(recording, self._lock).run()
             return recording.note
+
+    def _caught_up(self, wanted: Wanted, opened: ExitStack) -> Recording:
+        """A recording that has come to the log's end, with what it has read in its place."""
+        recording = recording_of(wanted, opened)
+        recording.catch_up()
+        recording.check_begun()
+        with Held():
+            recording.put()
+            self._wanted, self._pause, self.has_begun = replace(self._wanted, append=True, from_snapshot=False, behind=False), FIRST_PAUSE, True
+        return recording
+
+    def _read_here(self, refused: Refused) -> None:
+        """Reads here what the program refused: one transaction, where that is known, else all up to the log's end; and where it goes on
+        to refuse, or can't be run, all that is still to come. The recorder stops at what no feed can say."""
+        wanted, gtid = self._wanted, refused.transaction
+        if refused.number is None or self._handed_over > MOST_HANDED_OVER:
+            self._wanted, self._told = replace(wanted, by_log=None), str(refused)
+            return wanted.tell(self._told)
+        with ExitStack() as opened:
+            if self._handed_over > 1:
+                gtid = None
+            self._caught_up(wanted.here(Until({gtid.domain: gtid.sequence}) if gtid else None), opened)
+        wanted.tell(f"{refused}, in transaction {gtid}" if gtid else str(refused))
 
 
 class _Live:
@@ -188,6 +235,8 @@ class _LiveByLog(_Live):
     """The last whole transaction that was there when it read."""
     _is_told = False
     """Whether a line has said that an XA transaction is waited for."""
+    _is_long = False
+    """Whether a line has said how long a reading takes."""
 
     def run(self) -> None:
         if self._recording.is_done:
@@ -225,14 +274,19 @@ class _LiveByLog(_Live):
         recording, begun = self._recording, time.monotonic()
         try:
             self._transcribe(is_last)
-        except Stop:
+        except Stop as stop:
             recording.up_to_fault()
             with Held():
                 self._put()
             if recording.is_altered():
                 raise _Altered from None
+            if isinstance(stop, Refused) and recording.copies.marks:
+                stop.transaction = recording.copies.marks[0].gtid
             raise
         self._least = max(TOGETHER, time.monotonic() - begun)
+        if self._least > LONG and not self._is_long:
+            self._is_long = True
+            tell(f"feed: {self._recording.wanted.out}: a reading takes {self._least:.0f} seconds, and transactions come as late: {SHORTER}")
 
     def _transcribe(self, is_last: bool) -> None:
         recording, groups = self._recording, self._recording.groups
@@ -242,5 +296,9 @@ class _LiveByLog(_Live):
             self._is_told = True
             tell(f"feed: {self._recording.wanted.out} waits: {recording.pending}")
         with Held():
+            if is_last and recording.note.place.log != self._place.log:
+                # (else the log could be purged in which the note ends)
+                recording.put()
+                self._place = recording.note.place
             self._put()
         self._put_at = time.monotonic()

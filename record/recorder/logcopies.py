@@ -14,7 +14,7 @@ from .events import HEADER, GtidEvent, LogEvent
 from .files import PIECE, open_file, writing
 from .position import Gtid, Position, Until, domain_uuid
 from .server import Place
-from .stop import BEHIND, Stop
+from .stop import BEHIND, WITHOUT, Stop
 
 MAGIC = b"\xfebin"
 FIRST = len(MAGIC)
@@ -22,6 +22,8 @@ FIRST = len(MAGIC)
 FLAGS, IN_USE = FIRST + 17, 1
 """The byte of a file that says whether its server still writes it, and how."""
 BUFFER = 2**20
+LEANS = ".leans"
+"""The end of the name of an empty file beside a copy that may need the one before it."""
 MOST_MARKS = 2**16
 PREPARED, ENDED = 0x40, 0x80
 """Of a transaction's flags: an XA transaction is prepared by it, or ended."""
@@ -50,7 +52,7 @@ class Copies:
     """The copies beside a feed whose lock is held, and the transactions behind a place. `begun` has by log when it was begun."""
 
     def __init__(self, feed: str, place: Place, begun: int | None, position: Position, prepared: set[bytes], until: Until | None) -> None:
-        self._folder, self._file, self._log, self._size, self._is_whole = folder_of(feed), None, "", 0, False
+        self.folder, self._file, self._log, self._size, self._is_whole = folder_of(feed), None, "", 0, False
         self._place, self._until = place, until
         self.begun = {place.log: begun}
         self._seen, self.prepared, self.marks = Position(position.last), set(prepared), []
@@ -62,33 +64,43 @@ class Copies:
     def begin(self, first: Place, wants_all: bool) -> Place:
         """Where the server's log is to be copied from: behind the copies that are there, or else its `first` file, where all of
         them are wanted, or that of the place."""
-        with writing(self._folder):
-            if os.path.islink(self._folder):
-                raise Stop("a link", f"at {self._folder}", "let a folder be there, or nothing")
-            os.makedirs(self._folder, exist_ok=True)
+        with writing(self.folder):
+            if os.path.islink(self.folder):
+                raise Stop("a link", f"at {self.folder}", "let a folder be there, or nothing")
+            os.makedirs(self.folder, 0o700, exist_ok=True)
             number, names = number_of(self._place.log), self._names()
             is_there = self._place.log in names and self._opens()
             if wants_all and number_of(names[0] if names else self._place.log) > number_of(first.log):
                 is_there = False
+            wants_all = wants_all or self._leans(self._place.log)
             for name in names:
                 if not is_there or number_of(name) > number or number_of(name) < number and not wants_all:
-                    os.unlink(os.path.join(self._folder, name))
+                    self._unlink(name)
         if is_there:
             return self._place
         self.close()
         self._log = ""
         return first if wants_all else Place(self._place.log, FIRST)
 
+    def _leans(self, log: str) -> bool:
+        """Whether a copy's log began while an XA transaction was prepared, so that it may end what an earlier one has."""
+        return os.path.exists(os.path.join(self.folder, log + LEANS))
+
+    def _unlink(self, log: str) -> None:
+        for name in log + LEANS, log:
+            with suppress(FileNotFoundError):
+                os.unlink(os.path.join(self.folder, name))
+
     def _names(self) -> list[str]:
-        return sorted((name for name in os.listdir(self._folder) if number_of(name) >= 0), key=number_of)
+        return sorted((name for name in os.listdir(self.folder) if number_of(name) >= 0), key=number_of)
 
     def paths(self, before: Place | None = None) -> list[str]:
         """The copies, or those of the logs before that of a place."""
-        return [os.path.join(self._folder, name) for name in self._names() if before is None or number_of(name) < number_of(before.log)]
+        return [os.path.join(self.folder, name) for name in self._names() if before is None or number_of(name) < number_of(before.log)]
 
     def _opens(self) -> bool:
         """Opens the copy of the place's log, and cuts it there, if it is of that log."""
-        file = os.fdopen(open_file(os.path.join(self._folder, self._place.log), os.O_RDWR), "r+b", BUFFER)
+        file = os.fdopen(open_file(os.path.join(self.folder, self._place.log), os.O_RDWR), "r+b", BUFFER)
         head = file.read(FIRST + HEADER.size)
         is_its = len(head) == FIRST + HEADER.size and head.startswith(MAGIC) and os.fstat(file.fileno()).st_size >= self._place.offset > FIRST
         time, kind, *_ = HEADER.unpack(head[FIRST:]) if is_its else (0, 0)
@@ -117,11 +129,11 @@ class Copies:
             self.begun[log] = time
         if kind == LogEvent.HEARTBEAT or end == 0 or self.is_done:
             return kind
-        with writing(self._folder):
+        with writing(self.folder):
             if kind == LogEvent.FORMAT_DESCRIPTION and log != self._log:
                 self._begin_log(log)
             if log != self._log or end != self._size + len(event) & 0xFFFFFFFF:
-                raise Stop("a log that isn't sent as its file has it", f"at {log}:{end}", "record without --by-log")
+                raise Stop("a log that isn't sent as its file has it", f"at {log}:{end}", WITHOUT)
             if kind == LogEvent.GTID:
                 self._mark(event, server)
                 if self.is_done:
@@ -135,12 +147,14 @@ class Copies:
 
     def _begin_log(self, log: str) -> None:
         if os.path.basename(log) != log or number_of(log) < 0:
-            raise Stop("a log's name that no file has", f"({log})", "record without --by-log")
+            raise Stop("a log's name that no file has", f"({log})", WITHOUT)
         if self._file and self._is_whole:
             self._say_in_use(False)
         self.sync()
         self.close()
-        self._is(open(os.path.join(self._folder, log), "w+b", BUFFER), log, 0)  # noqa: SIM115
+        if self.prepared and self._names():
+            os.close(os.open(os.path.join(self.folder, log + LEANS), os.O_CREAT | os.O_WRONLY, 0o600))
+        self._is(open(os.path.join(self.folder, log), "w+b", BUFFER), log, 0)  # noqa: SIM115
         self._file.write(MAGIC)
         self._size = FIRST
 
@@ -190,8 +204,8 @@ class Copies:
 
     def part(self, before: Place) -> BinaryIO:
         """The beginning of a copy, up to a place, as a file of its own that a server still writes."""
-        part = TemporaryFile(dir=self._folder)  # noqa: SIM115
-        with writing(self._folder), open(os.path.join(self._folder, before.log), "rb") as whole:
+        part = TemporaryFile(dir=self.folder)  # noqa: SIM115
+        with writing(self.folder), open(os.path.join(self.folder, before.log), "rb") as whole:
             left = before.offset
             while left and (piece := whole.read(min(PIECE, left))):
                 part.write(piece)
@@ -200,24 +214,29 @@ class Copies:
             _say_in_use(part.fileno(), True)
         return part
 
+    def size(self) -> int:
+        """The bytes of all copies."""
+        with writing(self.folder):
+            return sum(os.stat(path).st_size for path in self.paths())
+
     def flush(self) -> None:
-        with writing(self._folder):
+        with writing(self.folder):
             if self._file:
                 self._file.flush()
 
     def sync(self) -> None:
         """Makes the copies last."""
-        with writing(self._folder):
+        with writing(self.folder):
             if self._file:
                 self._file.flush()
                 os.fsync(self._file.fileno())
 
     def discard_before(self, log: str) -> None:
-        """Takes the copies of earlier logs away."""
-        for path in self.paths():
-            if number_of(path) < number_of(log):
+        """Takes the copies of earlier logs away, unless that one may end what they have."""
+        for name in self._names():
+            if number_of(name) < number_of(log) and not self._leans(log):
                 with suppress(OSError):
-                    os.unlink(path)
+                    self._unlink(name)
 
     def close(self) -> None:
         if self._file:

@@ -1,6 +1,7 @@
 """The program: where it is, and what it answers."""
 import json
 import os
+import re
 import signal
 import subprocess
 from collections.abc import Iterator
@@ -8,12 +9,13 @@ from contextlib import contextmanager
 from dataclasses import dataclass
 from typing import BinaryIO
 
-from .stop import Stop
+from .stop import Refused
 
 OWN = os.path.join(os.path.dirname(os.path.abspath(__file__)), "..", "..", "vrepl")
 """The one of this repository."""
 LARGE_PAGES = "glibc.malloc.hugetlb=1:glibc.malloc.top_pad=16777216"
 """As ./vrepl sets it, for a program that is named (docs/OPERATE.md, 'Large pages')."""
+NUMBER = re.compile(r"refused (\d+)\b")
 DIFFERS = 3
 """The status of `vdiff` where the dumps differ, and of `check` where it warns of something."""
 
@@ -30,12 +32,13 @@ class Program:
         try:
             done = subprocess.run([self.path, *words], stdin=subprocess.DEVNULL, stdout=out or subprocess.PIPE, stderr=subprocess.PIPE, pass_fds=numbers, env=told)
         except OSError as fault:
-            raise Stop("no program", f"at {self.path}", f"{fault.strerror}; --program names another") from None
+            raise Refused("no program", f"at {self.path}", f"{fault.strerror}; --program names another", None) from None
         if done.returncode not in (0, DIFFERS):
             told = _plain(done.stderr.decode(errors="replace")).split("\n")
             # (before it may stand how far the command was)
             at = next((at for at, line in enumerate(told) if line.startswith("refused ")), 0)
-            raise Stop(who, "", "; ".join(told[at:at + 2]).rstrip("; ") or _ended(done.returncode))
+            number = NUMBER.match(told[at])
+            raise Refused(who, "", "; ".join(told[at:at + 2]).rstrip("; ") or _ended(done.returncode), int(number[1]) if number else None)
         return done.returncode, "" if out else done.stdout.decode(errors="replace")
 
 

@@ -6,7 +6,7 @@ import sys
 import time
 from collections.abc import Iterator
 from contextlib import ExitStack, closing
-from dataclasses import dataclass
+from dataclasses import dataclass, replace
 from itertools import chain
 
 from .catalogue import Table, read_tables
@@ -23,7 +23,7 @@ from .program import Program
 from .server import Login, Place, check_schemas, check_settings, end_place, events, first_place, gtids_at, log_sizes, server_id, why_unread
 from .snapshot import Snapshot
 from .statements import Name
-from .stop import AGAIN, ANEW, BEHIND, Beyond, Lost, Stop
+from .stop import AGAIN, ANEW, BEHIND, Beyond, Lost, Refused, Stop, Untold
 from .transactions import Transaction, Transactions
 from .untold import check_names, told_of
 
@@ -31,6 +31,9 @@ NO_GTIDS = b"\0\0\0\0"
 """How a GTID list begins that has none: it stands at a log's beginning, and lists what is before it."""
 LOOKS = 16
 """At each of so many transactions it is looked how far a recording is."""
+UNKNOWN = {*range(51, 58), 72, 148, 149, 151, 152, 153, 156, 159}
+"""The numbers by which the program refuses what the recorder may know: tables that no workflow file has, memory, columns, types,
+statements, packed events, XA transactions over two files, and tables that no copy makes."""
 MINUTE = 60
 """The seconds between two lines that say how far a recording is."""
 
@@ -54,7 +57,25 @@ class Wanted:
     keyspace: str | None = None
     """Of which positions are to be VGTIDs; else they are GTIDs, or what the feed that is gone on with has."""
     by_log: Program | None = None
-    """The program that reads the log, where it isn't read here."""
+    """The program that reads the log, where it can; without one it is read here."""
+    by_log_alone: bool = False
+    """Whether nothing is read here in its place."""
+    tells: bool = True
+    """Whether a line says what is read here in its place."""
+
+    def here(self, until: Until | None = None) -> "Wanted":
+        """The same, read here; up to another position, where one is said."""
+        return replace(self, by_log=None, until=until or self.until)
+
+    def is_handed_over(self, refused: Refused) -> bool:
+        """Whether the log is read here where the program refuses it: what may be only a statement, an event or a type that it doesn't
+        know, or a program that can't be run. The recorder stops by itself at what no feed can say."""
+        return self.by_log is not None and not self.by_log_alone and (refused.number is None or refused.number in UNKNOWN)
+
+    def tell(self, why: str) -> None:
+        """Says that the log is read here, and why."""
+        if self.tells:
+            tell(f"feed: {why}: the recorder reads the log in the program's place")
 
 
 @dataclass
@@ -102,24 +123,47 @@ def record(wanted: Wanted) -> Note:
     """Writes a feed and its note, or goes on with them, up to where the log ends. Stops, and leaves what is there
     as it is, where the feed couldn't say what the tables are."""
     try:
-        with locked(wanted.out, lambda: check_free_or_there(wanted)), ExitStack() as opened:
-            recording = recording_of(wanted, opened)
-            recording.catch_up()
-            recording.check_whole()
-            with Last():
-                recording.put()
-            return recording.note
+        with locked(wanted.out, lambda: check_free_or_there(wanted)):
+            try:
+                return _over_one_connection(wanted)
+            except Refused as refused:
+                if not wanted.is_handed_over(refused):
+                    raise
+                return _over_one_connection(wanted.here(), str(refused))
     except Ended as ended:
         raise Stop(f"ended by {ended}", "", left_as_it_was(wanted)) from None
 
 
+def _over_one_connection(wanted: Wanted, why: str = "") -> Note:
+    """Records; what it is read here for is told once that is done."""
+    with ExitStack() as opened:
+        recording = recording_of(wanted, opened)
+        recording.catch_up()
+        recording.check_whole()
+        with Last():
+            recording.put()
+            if why := why or recording.why_here:
+                wanted.tell(why)
+        return recording.note
+
+
 def recording_of(wanted: Wanted, opened: ExitStack) -> "Recording":
-    """What one connection records, by what is wanted to read the log."""
+    """What one connection records, by what is wanted to read the log, and can."""
     if wanted.by_log is None:
         return Recording(wanted, opened)
     from .bylog import ByLog
 
-    return ByLog(wanted, opened)
+    try:
+        with ExitStack() as tried:
+            recording = ByLog(wanted, tried)
+            opened.push(tried.pop_all())
+            return recording
+    except Untold as untold:
+        if wanted.by_log_alone:
+            raise
+        recording = Recording(wanted.here(), opened)
+        recording.why_here, recording.is_here_once = untold.why, untold.is_once
+        return recording
 
 
 def left_as_it_was(wanted: Wanted) -> str:
@@ -133,7 +177,10 @@ def check_free_or_there(wanted: Wanted) -> None:
 
 class Recording:
     """What one connection records. `note` is the one of all groups; where an XA transaction is `pending` it can't be the
-    feed's. `is_done` where the position is reached up to which is recorded."""
+    feed's. `is_done` where the position is reached up to which is recorded; `why_here` says why the log is read here where the
+    program was to read it, and `is_here_once` that it may go on by the program."""
+
+    why_here, is_here_once = "", False
 
     def __init__(self, wanted: Wanted, opened: ExitStack) -> None:
         """What is opened is closed with `opened`."""
@@ -148,6 +195,7 @@ class Recording:
         self._snapshot = opened.enter_context(closing(Snapshot(wanted.login))) if with_snapshot else None
         self.tables = read_tables(self.connection, wanted.tables)
         check_names(self.tables, self._keyspace or "")
+        self._check_way(further)
         self._further = [table for table in self.tables if table.full in further]
         start = self._start = self._first() if wanted.behind or not old else self._behind(old)
         self._end = self._log_end()
@@ -168,6 +216,9 @@ class Recording:
         self._folder = os.path.dirname(wanted.out) or "."
         self.reading = Transactions(self._tables_there(), self.position, self.filled, start.prepared, begun_with, self._folder)
         self.note, self.pending = self._noted(start.place), None
+
+    def _check_way(self, further: set[Name]) -> None:
+        """Stops where the log isn't to be read in this way; nothing is recorded yet."""
 
     def _tables_there(self) -> list[Table]:
         """The tables that the feed has where the reading begins."""
@@ -378,7 +429,7 @@ class Recording:
         return Note(self.version, self.wanted.shard, place, self.reading.begun or self._start.begun, position.gtids(), position.snapshot,
                     self.written, self.feed.size, uuids, {name: table.layout() for name, table in tables.items()},
                     sorted(".".join(name) for name in self.filled), [xa.hex() for xa in self.reading.prepared],
-                    server_id=self._server_id, keyspace=self._keyspace, turn=position.turn, past=dict(position.past),
+                    server_id=self._server_id, keyspace=self._keyspace, turn=position.turn, past=dict(position.past), recorder=position.gtids(),
                     keys={name: table.key_names for name, table in tables.items()})  # fmt: skip
 
     def put(self) -> None:

@@ -27,10 +27,29 @@ class Taken(Stop):
     """A stop at a feed that another recording writes."""
 
 
+class Refused(Stop):
+    """A stop at what the program refuses, by its number; none where it can't be run."""
+
+    def __init__(self, what: str, where: str, todo: str, number: int | None) -> None:
+        super().__init__(what, where, todo)
+        self.number, self.transaction = number, None
+        """The transaction is set where it is known."""
+
+
+class Untold(Stop):
+    """A stop at what the program doesn't tell of a log, where the recorder may: `why` says what, and where. `is_once` where the
+    program may go on behind it."""
+
+    def __init__(self, what: str, where: str = "", todo: str = "", is_once: bool = False) -> None:
+        super().__init__(what, where, todo or WITHOUT)
+        self.why, self.is_once = on_one_line(f"{what} {where}".rstrip()), is_once
+
+
 ANEW = "record anew with --from-snapshot"
 BEHIND = f"go on with --anew-behind, or {ANEW}"
 """Where a feed is that can go on with a snapshot."""
 AGAIN = "record again"
+WITHOUT = "record with --by-recorder in place of --by-log"
 
 
 def on_one_line(text: str) -> str:
