@@ -14,7 +14,8 @@ a workflow with another type or another number of columns is refused where the t
 transaction. Behind the feed of the logs up to a transaction, for each of them, `--after` writes the rest of the whole feed's
 messages, of all logs or of those from that one's file on; behind the whole feed it writes nothing; where a table that is made in
 an earlier file has its first rows behind that feed, the later logs alone are refused 159. Logs that begin behind the feed's end
-are refused 159, and a feed of another shard or with other columns 89 and 85. The last line is 'N passed, M failed'.
+are refused 159, and a feed of another shard or with other columns 89 and 85. Where a growth of memory is refused, three of each case, it
+is 72. One case's last file is cut at every byte, and every bit of one of its events is turned. The last line is 'N passed, M failed'.
 """
 import argparse
 import bisect
@@ -26,12 +27,20 @@ import subprocess
 import sys
 import tempfile
 import time
+from concurrent.futures import ThreadPoolExecutor
 
 sys.path.append(os.path.join(os.path.dirname(os.path.abspath(__file__)), "..", "record"))
 
+import preloaded
 from model.binlog import History
 from recorder import wire
 
+ROOM = tempfile.TemporaryDirectory(prefix="vrepl-transcribe-")
+PATIENCE = 600
+GROWTHS = 3
+"""How many growths of a case are refused."""
+SMALL = 2000
+"""The bytes of a file that is cut at each."""
 COMMIT = b"\x0a\x02\x08\x03"
 LINE = re.compile(rb"refused (\d+) file (log\.\d) byte (\d+)(?: table (\w+))?\n")
 
@@ -51,8 +60,8 @@ class Place:
             file.write(data)
         return name
 
-    def run(self, *words: str) -> tuple[int, bytes, bytes]:
-        ran = subprocess.run([self.program, *words], cwd=self.folder, capture_output=True, timeout=60)
+    def run(self, *words: str, told: dict | None = None) -> tuple[int, bytes, bytes]:
+        ran = subprocess.run([self.program, *words], cwd=self.folder, capture_output=True, timeout=PATIENCE, env=os.environ | (told or {}))
         return ran.returncode, ran.stdout, ran.stderr
 
 
@@ -90,9 +99,9 @@ class Trial:
         place.put("workflow", json.dumps(self.history.workflow()).encode())
         self.names = [place.put(f"log.{number}", bytes(log.data)) for number, log in enumerate(self.history.logs)]
 
-    def made(self, names: list[str], workflow: str = "workflow", words: tuple = ()) -> tuple[int, bytes, bytes]:
+    def made(self, names: list[str], workflow: str = "workflow", words: tuple = (), told: dict | None = None) -> tuple[int, bytes, bytes]:
         schema = [f"--schema={self.history.schema}"] if self.history.schema else []
-        return self.place.run("transcribe", *words, f"--shard={self.history.shard}", *schema, workflow, *names)
+        return self.place.run("transcribe", *words, f"--shard={self.history.shard}", *schema, workflow, *names, told=told)
 
     def line(self, ran: tuple[int, bytes, bytes], numbers: set[int], name: str) -> re.Match:
         """The line of a refusal with one of these numbers, of this file."""
@@ -112,9 +121,9 @@ class Trial:
         front, commit, _ = feed.rpartition(b"\x0a\x02\x08\x03")
         return self.history.feed.startswith(front + commit)
 
-    def cut(self) -> None:
+    def cut(self, size: int | None = None) -> None:
         log = self.history.logs[-1]
-        size = self.r.randrange(len(log.data))
+        size = self.r.randrange(len(log.data)) if size is None else size
         name = self.place.put(self.names[-1], bytes(log.data[:size]))
         ran = self.made(self.names)
         if ran[0] == 0:
@@ -124,12 +133,13 @@ class Trial:
             wants(int(line[3]) <= size, ("a byte behind the end", size, ran))
         self.place.put(name, bytes(log.data))
 
-    def turned(self) -> None:
-        number = self.r.randrange(len(self.history.logs))
+    def turned(self, at: tuple[int, int] | None = None) -> None:
+        """A bit is turned: of any file, or of the last one at a byte and a bit of it."""
+        number = self.r.randrange(len(self.history.logs)) if at is None else len(self.history.logs) - 1
         log = self.history.logs[number]
         data = bytearray(log.data)
-        byte = self.r.randrange(len(data))
-        data[byte] ^= 1 << self.r.randrange(8)
+        byte, bit = at or (self.r.randrange(len(data)), self.r.randrange(8))
+        data[byte] ^= 1 << bit
         self.place.put(self.names[number], bytes(data))
         ran = self.made(self.names)
         self.place.put(self.names[number], bytes(log.data))
@@ -143,6 +153,18 @@ class Trial:
         begin = log.places[bisect.bisect_right(log.places, byte) - 1] if byte >= 4 else 0
         if byte >= 4 and byte != log.places[0] + 17:
             wants(line[2].decode() == self.names[number] and int(line[3]) == begin, ("turned", number, byte, begin, ran))
+
+    def growths(self) -> None:
+        """Some of the growths are refused, each alone or with all later ones: 72, or the feed."""
+        counted = os.path.join(self.place.folder, "growths")
+        library = {"LD_PRELOAD": preloaded.library(ROOM.name, "refuse_growth")}
+        whole = self.made(self.names, told=library | {"GROWTHS": counted})
+        wants(whole == (0, self.history.feed, b""), ("beside a library", whole))
+        with open(counted, "rb") as file:
+            count = int(file.read())
+        for at in self.r.sample(range(1, count + 1), min(GROWTHS, count)):
+            ran = self.made(self.names, told=library | {"REFUSE_GROWTH": f"{at}{self.r.choice(['', '+'])}"})
+            wants(ran in ((1, b"", b"refused 72\n"), whole), ("growth", at, count, ran))
 
     def reversed(self) -> None:
         if len(self.names) > 1:
@@ -226,6 +248,7 @@ class Trial:
             self.turned()
         self.reversed()
         self.altered()
+        self.growths()
 
 
 def one(program: str, seed: int, case: int) -> str | None:
@@ -235,6 +258,34 @@ def one(program: str, seed: int, case: int) -> str | None:
         except Fault as fault:
             return f"--seed {seed} --case {case}: {fault}"
     return None
+
+
+def swept(program: str, seed: int) -> tuple[str | None, int]:
+    """The last file of a case of two files or more is cut at every byte, and every bit of an event is turned, whatever it is; answers
+    how often."""
+    case = next(case for case in range(1 << 20) if _is_small(History(random.Random(f"{seed} {case}"), wire)))
+    said, count = f"--seed {seed} --case {case}", max(2, os.cpu_count() or 1)
+    log = History(random.Random(f"{seed} {case}"), wire).logs[-1]
+    begin = random.Random(f"{seed} event").randrange(len(log.places))
+    end = [*log.places, len(log.data)][begin + 1]
+    items = [(size,) for size in range(len(log.data))] + [(byte, bit) for byte in range(log.places[begin], end) for bit in range(8)]
+
+    def part(at: int) -> str | None:
+        with tempfile.TemporaryDirectory(prefix="vrepl-transcribe-") as folder:
+            trial = Trial(Place(program, folder), random.Random(f"{seed} {case}"))
+            try:
+                for item in items[at::count]:
+                    trial.cut(*item) if len(item) == 1 else trial.turned(item)
+            except Fault as fault:
+                return f"{said}, swept: {fault}"
+        return None
+
+    with ThreadPoolExecutor(count) as pool:
+        return next(filter(None, pool.map(part, range(count))), None), len(items)
+
+
+def _is_small(history: History) -> bool:
+    return len(history.logs) > 1 and history.logs[-1].checked and len(history.logs[-1].places) > 6 and len(history.logs[-1].data) < SMALL
 
 
 def main() -> int:
@@ -251,10 +302,11 @@ def main() -> int:
         while time.monotonic() < end and len(faults) < 3:
             faults.append(one(said.program, said.seed, case))
             faults, case = [fault for fault in faults if fault], case + 1
-    faults = [fault for fault in faults if fault]
+    sweep, count = (None, 0) if said.case is not None else swept(said.program, said.seed)
+    faults = [fault for fault in [*faults, sweep] if fault]
     for fault in faults:
         print(fault)
-    print(f"{case} cases, seed {said.seed}")
+    print(f"{case} cases, {count} cuts and bits of one, seed {said.seed}")
     print(f"{0 if faults else 1} passed, {1 if faults else 0} failed")
     return 1 if faults else 0
 
