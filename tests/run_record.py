@@ -67,10 +67,14 @@ class Trial:
         return subprocess.CompletedProcess(words, done.status, done.out.encode(), done.err.encode())
 
     def feed_words(self, *words: str) -> list[str]:
-        """The words of record/feed; a feed that is there is made anew, unless it is gone on with."""
+        """The words of record/feed; a feed that is there is made anew, unless it is gone on with. With a keyspace the program reads
+        the log, and the recorder no part of it; without one the recorder, and no line says so."""
         out = words[words.index("--out") + 1]
-        anew = ["--replace"] if os.path.exists(out + ".json") and "--append" not in words else []
-        return ["--socket", self.server.socket, "--user", "root", *anew, *words]
+        note = json.loads(read_file(out + ".json") or b"{}")
+        anew = ["--replace"] if note and "--append" not in words else []
+        by_log = note.get("keyspace") if "--append" in words else "--keyspace" in words
+        way = [] if "--by-recorder" in words else ["--by-log", "--program", self.program] if by_log else ["--by-recorder"]
+        return ["--socket", self.server.socket, "--user", "root", *way, *anew, *words]
 
     def made(self, *words: str) -> bytes:
         """The output of a command that has to succeed. RuntimeError where it doesn't."""
@@ -81,6 +85,18 @@ class Trial:
 
     def recorded(self, *words: str) -> None:
         self.made("record/feed", *self.feed_words(*words))
+
+    def recorded_twice(self, shard: str, feed: str, *words: str) -> None:
+        """Records a feed by the program, and another one, FEED.own, by the recorder: they have the same groups."""
+        for out, way in (feed, []), (f"{feed}.own", ["--by-recorder"]):
+            self.recorded(f"--shard={shard}", *([] if "--append" in words else ["--keyspace", "ks"]), *way, "--out", out, *words)
+        made, own = ([group for group in self.shown(shard, out).split(b"group ") if b"\n" in group] for out in (feed, f"{feed}.own"))
+        at = next((at for at, (one, other) in enumerate(zip(made, own)) if one != other), min(len(made), len(own)))
+        told = f"group {at + 1} of {len(made)} and {len(own)}: {made[at:at + 1]!r:.200} and not {own[at:at + 1]!r:.200}"
+        self.check(f"{os.path.basename(feed)} by the program {words[:1]}", told if made != own or not made else None)
+
+    def shown(self, shard: str, feed: str) -> bytes:
+        return self.made(self.program, "show", "--keyspace", "ks", f"--shard={shard}", feed)
 
     def workflow(self, name: str, shards: list[str], tables: list[str], *words: str) -> str:
         """Writes a workflow file; answers its path."""
@@ -147,14 +163,18 @@ def random_tables(trial: Trial, rounds: int = ROUNDS) -> None:
 
 def rounds_alone(trial: Trial) -> None:
     """As many random tables as the command line wants."""
+    from record import transcribed as logs
+
     random_tables(trial, int(sys.argv[2]))
+    logs.transcribed(trial, int(sys.argv[2]))
 
 
 def merged_and_split(trial: Trial) -> None:
     """Both shards' feeds into one target, and into one of each key range."""
     from record.load import SCHEMAS, SHARDS, VINDEXES, Load, creation, deadlock, large_transaction, tables_of
 
-    trial.server.sql(creation() + "CREATE DATABASE aside; CREATE TABLE aside.t (v TEXT); ")
+    # (an XA transaction is prepared and ended in one file)
+    trial.server.sql(creation() + "CREATE DATABASE aside; CREATE TABLE aside.t (v TEXT); SET GLOBAL max_binlog_size=1073741824")
     load = Load(trial.server.socket, 1, clients=6, transactions=200, xa=True)
     trial.server.sql("INSERT INTO aside.t VALUES ('not recorded'); CREATE TABLE aside.t2 AS SELECT * FROM aside.t; DROP TABLE aside.t; ")
     done = load.wait()
@@ -164,7 +184,8 @@ def merged_and_split(trial: Trial) -> None:
     trial.check("load", f"no {missing}" if missing else None)
     feeds = [trial.path(f"{schema}.feed") for schema in SCHEMAS]
     for schema, shard, feed in zip(SCHEMAS, SHARDS, feeds):
-        trial.recorded("--shard", shard, "--out", feed, *tables_of(schema))
+        trial.recorded_twice(shard, feed, *tables_of(schema))
+    trial.server.sql("SET GLOBAL max_binlog_size=262144; FLUSH BINARY LOGS")
     whole = trial.workflow("whole.json", SHARDS, tables_of(SCHEMAS[0]), *VINDEXES)
     wanted = trial.selected(whole, *SCHEMAS)
     trial.same("merged", trial.made(trial.program, "run", whole, *feeds), wanted, 100)
@@ -175,7 +196,7 @@ def merged_and_split(trial: Trial) -> None:
     by_rule = trial.workflow("rule.json", SHARDS, tables_of(SCHEMAS[0]), *VINDEXES,
                              "--rule=blobs=select * from blobs where in_keyrange(k, 'binary_md5', '70-')", "--rule=pairs=80-")  # fmt: skip
     trial.same("split by rules", trial.made(trial.program, "run", by_rule, *feeds), trial.selected(by_rule, *SCHEMAS), 10)
-    library_reads(trial, feeds[0])
+    library_reads(trial, feeds[0], SHARDS[0])
 
 
 def by_hash(trial: Trial) -> None:
@@ -185,7 +206,7 @@ def by_hash(trial: Trial) -> None:
     hashed.resharded(trial)
 
 
-def library_reads(trial: Trial, feed: str) -> None:
+def library_reads(trial: Trial, feed: str, shard: str) -> None:
     """Google's library reads the feed's messages as groups in the order of `show`, each with its FIELDs first."""
     from recorder.messages import EventType, Response, frames
 
@@ -195,16 +216,16 @@ def library_reads(trial: Trial, feed: str) -> None:
         events = Response.FromString(data[start:end]).events
         # (a group of more than a megabyte is in several messages)
         kinds += [event.type for event in events]
-        if EventType.GTID in kinds:
-            faults += kinds[:1] not in ([EventType.BEGIN], [EventType.GTID]) or kinds.count(EventType.GTID) != 1
+        if EventType.VGTID in kinds:
+            faults += kinds[:1] not in ([EventType.BEGIN], [EventType.VGTID]) or kinds.count(EventType.VGTID) != 1
             kinds = []
-        groups += [event.gtid.removeprefix("MySQL56/") for event in events if event.type == EventType.GTID]
+        groups += [event.vgtid.shard_gtids[0].gtid.removeprefix("MySQL56/") for event in events if event.type == EventType.VGTID]
         for event in events:
             if event.type == EventType.FIELD:
                 faults += event.field_event.table_name in told
                 told.add(event.field_event.table_name)
             faults += event.type == EventType.ROW and event.row_event.table_name not in told
-    shown = [line.split()[2].decode() for line in trial.made(trial.program, "show", feed).splitlines() if line.startswith(b"group ")]
+    shown = [line.split()[2].decode() for line in trial.shown(shard, feed).splitlines() if line.startswith(b"group ")]
     trial.check("messages", None if not faults and not kinds and groups == shown else f"{faults} faults, {len(groups)} groups and {len(shown)} shown")
 
 
@@ -234,17 +255,40 @@ def kinds(trial: Trial) -> None:
         trial.same(f"types {words}", trial.made(trial.program, "run", workflow, trial.path("kinds.feed")), wanted, 15)
 
 
+def told_kinds(trial: Trial) -> None:
+    """Columns of every type that the program tells, from the log and from a snapshot."""
+    trial.server.sql("CREATE DATABASE k; CREATE TABLE k.p (id BIGINT PRIMARY KEY, d DECIMAL(10,3), e DECIMAL(65,30), dt DATETIME(3), d0 DATETIME,"
+                     " ts TIMESTAMP(6) NULL, tm TIME(1), da DATE, y YEAR, en ENUM('x','y''z','ä'), se SET('p','q','r'), b BIT(10), u INT(6) UNSIGNED,"
+                     " v INT AS (id + 1) VIRTUAL, w INT AS (id + 2) STORED, l CHAR(9) CHARACTER SET latin1, n BINARY(4), t MEDIUMTEXT, o LONGBLOB); ")  # fmt: skip
+    rows = [
+        "(1, -12.5, 1e-30, '2020-01-02 03:04:05.678', '1999-12-31 23:59:59', '2020-01-02 03:04:05.6', '-10:11:12.1', '2024-02-29', 2001, 'y''z', 'p,r',"
+        " b'1010101010', 42, 'ä ', 'ab', 'ä', X'00FF')",
+        "(-2, 0, -99999999999999999999999999999999999.999, '0001-01-01', '9999-12-31 23:59:59', '1970-01-01 00:00:01', '838:59:59', '0001-01-01', 1901, 'ä', '',"
+        " b'1', 4294967295, '', '', '', '')",
+        "(3, 9999999.999, 0, '2000-02-29 12:00:00.001', NULL, NULL, '-00:00:00.5', '9999-12-31', 2155, 'x', 'q', b'0', 0, NULL, NULL, NULL, NULL)",
+    ]  # fmt: skip
+    names = "id, d, e, dt, d0, ts, tm, da, y, en, se, b, u, l, n, t, o"
+    trial.server.sql(f"SET time_zone='+00:00'; INSERT INTO k.p ({names}) VALUES {rows[0]}, {rows[1]}; INSERT INTO k.p ({names}) VALUES {rows[2]};"
+                     " UPDATE k.p SET tm='12:34:56.7', d=-d WHERE id > 0; DELETE FROM k.p WHERE id=-2; ")  # fmt: skip
+    workflow, feed = trial.workflow("kinds.told.json", ["-"], ["k.p"]), trial.path("kinds.told.feed")
+    wanted = trial.selected(workflow, "k")
+    for words in (), ("--from-snapshot",):
+        trial.recorded_twice("-", feed, *words, "k.p")
+        trial.same(f"types by the program {words}", trial.made(trial.program, "run", workflow, feed), wanted, 3)
+    trial.server.sql("DROP DATABASE k")
+
+
 def portions(trial: Trial) -> None:
     """A snapshot of more rows than a group has, and nothing of the table in the log behind it."""
     trial.server.sql("CREATE DATABASE p; USE p; CREATE TABLE p.t (id INT PRIMARY KEY, v INT); INSERT INTO p.t SELECT seq * 7, seq FROM seq_1_to_2500; ")
     workflow, feed = trial.workflow("portions.json", ["-"], ["p.t"]), trial.path("portions.feed")
-    trial.recorded("--shard", "-", "--out", feed, "--from-snapshot", "p.t")
+    trial.recorded_twice("-", feed, "--from-snapshot", "p.t")
     trial.same("portions of a snapshot", trial.made(trial.program, "run", workflow, feed), trial.selected(workflow, "p"), 2501)
-    trial.check("groups of a snapshot", None if groups_of(trial, feed) == 4 else f"{groups_of(trial, feed)}")
+    trial.check("groups of a snapshot", None if groups_of(trial, feed, "-") == 4 else f"{groups_of(trial, feed, '-')}")
 
 
-def groups_of(trial: Trial, feed: str) -> int:
-    return trial.made(trial.program, "show", feed).count(b"\ngroup ") + 1
+def groups_of(trial: Trial, feed: str, shard: str) -> int:
+    return trial.shown(shard, feed).count(b"\ngroup ") + 1
 
 
 def apply(stream: int, first: int, last: int) -> str:
@@ -256,25 +300,28 @@ def grown(trial: Trial) -> None:
     from record.load import SCHEMAS, SHARDS, VINDEXES, Load, tables_of
 
     feeds, whole = [trial.path(f"{schema}.feed") for schema in SCHEMAS], trial.path("whole.json")
-    ends = [groups_of(trial, feed) for feed in feeds]
+    ends = [groups_of(trial, feed, shard) for feed, shard in zip(feeds, SHARDS)]
     script = apply(0, 1, ends[0] // 2) + f"open 0 {ends[0] // 2}\ncopy 0 1\n" + apply(1, 1, ends[1]) + f"open 1 {ends[1]}\ncopy 1 1000000\n"
     saved = trial.run(trial.program, "save", whole, *feeds, stdin=script)
     with open(trial.path("saved.checkpoint"), "wb") as file:
         file.write(saved.stdout)
     with Load(trial.server.socket, 2, clients=4, transactions=120, xa=False, goes_on=True) as load:
-        trial.recorded("--shard", "-80", "--out", trial.path("snap.feed"), "--from-snapshot", *tables_of(SCHEMAS[0]))
+        trial.recorded("--shard", "-80", "--keyspace", "ks", "--out", trial.path("snap.feed"), "--from-snapshot", *tables_of(SCHEMAS[0]))
         taken = json.loads(read_file(trial.path("snap.feed.json")))["gtids"]
     load.wait()
     for schema, shard, feed in zip([*SCHEMAS, SCHEMAS[0]], [*SHARDS, "-80"], [*feeds, trial.path("snap.feed")]):
         old = read_file(feed)
-        trial.recorded("--shard", shard, "--out", feed, "--append", *tables_of(schema))
+        if feed in feeds:
+            trial.recorded_twice(shard, feed, "--append", *tables_of(schema))
+        else:
+            trial.recorded("--shard", shard, "--out", feed, "--append", *tables_of(schema))
         trial.check(f"append to {os.path.basename(feed)}", None if len(read_file(feed)) > len(old) and read_file(feed).startswith(old) else "not longer")
     trial.check("snapshot amidst writes", None if taken != json.loads(read_file(trial.path("snap.feed.json")))["gtids"] else "no writes behind it")
     wanted = trial.selected(whole, *SCHEMAS)
     trial.same("merged, appended", trial.made(trial.program, "run", whole, *feeds), wanted, 100)
     both = [trial.path("snap.feed"), feeds[1]]
     trial.same("merged, a snapshot and what is behind it", trial.made(trial.program, "run", whole, *both), wanted)
-    now = [groups_of(trial, feed) for feed in feeds]
+    now = [groups_of(trial, feed, shard) for feed, shard in zip(feeds, SHARDS)]
     script = apply(0, ends[0] // 2 + 1, now[0]) + apply(1, ends[1] + 1, now[1])
     script += "".join(f"open {stream} {now[stream]}\ncopy {stream} 1000000\n" * count for stream, count in ((0, 4), (1, 3))) + "dump\n"
     resumed = trial.run(trial.program, "resume", "--checkpoint", trial.path("saved.checkpoint"), whole, *feeds, stdin=script)
@@ -452,9 +499,11 @@ def transcribed(trial: Trial) -> None:
 
 def by_log(trial: Trial) -> None:
     """Feeds that the program makes of copies of the server's log."""
-    from record import bylog
+    from record import bylog, soaked, transacted
 
     bylog.bylog(trial)
+    for step in soaked.soaked, transacted.transacted, transacted.sealed:
+        step(trial)
 
 
 def from_vtgate(trial: Trial) -> None:
@@ -465,9 +514,10 @@ def from_vtgate(trial: Trial) -> None:
 
 
 STEPS: list[list[Callable[[Trial], None]]] = [
-    [statements, stops, prepared, reached, harmless, random_tables, merged_and_split, by_hash, kinds, portions, grown, late, workflows, from_vtgate,
+    [statements, stops, prepared, reached, harmless, random_tables, merged_and_split, by_hash, told_kinds, portions, grown, kinds, late, workflows, from_vtgate,
      operated, living],
-    [kept, anew, large, compared, compacted, repaired, paged, transcribed, by_log],
+    [kept, anew, large, compared, compacted, repaired, paged],
+    [transcribed, by_log],
 ]  # fmt: skip
 """Side by side, each over a server of its own: a step may need what one before it has made."""
 

@@ -1,6 +1,6 @@
-"""Feeds that the program makes of copies of the server's log (record/feed --by-log), held to those that the recorder reads itself:
-the same groups, by what `show` prints, from the whole log and grown over it, killed at each moment, and stopped by what the program
-refuses."""
+"""Feeds that the program makes of copies of the server's log, held to those that the recorder reads itself: the same groups, by what
+`show` prints, from the whole log, behind a snapshot and grown over it; killed at each moment, without room, with copies that are
+cut and servers that are killed; stopped by what the program refuses (`--by-log`), or read by the recorder there (without it)."""
 import json
 import os
 import random
@@ -26,8 +26,12 @@ class World:
         self._shard = shard
 
     def words(self, out: str, *words: str) -> list[str]:
-        more = ["--by-log", "--program", self.trial.program] if out == self.by else []
+        more = ["--by-log", "--program", self.trial.program] if out == self.by else ["--by-recorder"]
         return [*self._words, *more, *words, "--out", out, *self._tables]
+
+    def either(self, *words: str) -> list[str]:
+        """Those of a recording by the program that the recorder may help."""
+        return [*self._words, "--program", self.trial.program, *words, "--out", self.by, *self._tables]
 
     def record(self, *words: str) -> list[Done]:
         return [commands.run(*self.words(out, *words)) for out in (self.by, self.own)]
@@ -47,7 +51,7 @@ class World:
         shown = [self.shown(out) for out in (self.by, self.own)] if not wrong else []
         self.trial.check(f"by log, {name}", f"{wrong}" if wrong else None if shown[0] == shown[1] != b"" else "other groups")
         notes = [json.loads(read_file(f"{out}.json")) for out in (self.by, self.own)] if not wrong else [{}, {}]
-        lacking = [key for key, value in notes[1].items() if key not in ("size", "last", "place", "begun") and notes[0].get(key) != value]
+        lacking = [key for key, value in notes[1].items() if key not in ("size", "last", "place", "begun", "recorder") and notes[0].get(key) != value]
         self.trial.check(f"by log, {name}, the note", f"{[(key, notes[0].get(key), notes[1][key]) for key in lacking]}" if lacking else None)
 
     def copies(self) -> list[str]:
@@ -56,6 +60,12 @@ class World:
 
 def logs_of(trial) -> list[str]:
     return [line.split()[0] for line in trial.server.sql("SHOW BINARY LOGS").stdout.decode().splitlines()]
+
+
+def log_files_of(server) -> list[str]:
+    """A server's log files, in their order."""
+    names = [line.split("\t")[0] for line in server.sql("SHOW BINARY LOGS").stdout.decode().splitlines()]
+    return [os.path.join(server.folder, "data", name) for name in names]
 
 
 def loaded(trial) -> None:
@@ -81,7 +91,7 @@ def loaded(trial) -> None:
     have, want = read_file(f"{worlds[0].by}.logs/{last}"), read_file(os.path.join(trial.server.folder, "data", last))
     trial.check("by log, copies", None if last == logs_of(trial)[-1] and have and want.startswith(have) else f"{last}, {len(have)} bytes and {len(want)}")
     for world in worlds:
-        done = commands.run(*(word for word in world.words(world.by, "--append") if word not in ("--by-log", "--program", trial.program)))
+        done = commands.run(*(word for word in world.either("--append", "--by-recorder") if word not in ("--program", trial.program)))
         trial.check("by log, gone on with by the recorder", None if done.status == 0 and world.shown(world.by) == world.shown(world.own) else f"{done}")
 
 
@@ -101,11 +111,13 @@ def rotated(trial) -> None:
     trial.server.sql("INSERT INTO b.u VALUES (2, 'u')")
     world.same("without copies", "--append")
     snapshot = World(trial, "snapshot", "-", "b.t", "b.u")
-    commands.run(*(word for word in snapshot.words(snapshot.by, "--from-snapshot") if word not in ("--by-log", "--program", trial.program)))
-    shutil.copy(snapshot.by, snapshot.own)
-    shutil.copy(f"{snapshot.by}.json", f"{snapshot.own}.json")
+    snapshot.same("a snapshot", "--from-snapshot")
+    noted = json.loads(read_file(f"{snapshot.by}.json"))
+    trial.check("by log, the note of a snapshot", None if noted["recorder"] == noted["gtids"] else f"{noted}")
     trial.server.sql("INSERT INTO b.u VALUES (3, 'u'); DELETE FROM b.t WHERE id=1")
     snapshot.same("behind a snapshot", "--append")
+    noted = json.loads(read_file(f"{snapshot.by}.json"))
+    trial.check("by log, whose word", None if noted["recorder"] and noted["recorder"] != noted["gtids"] else f"{noted}")
 
 
 def interrupted(trial) -> None:
@@ -244,12 +256,186 @@ def refused(trial) -> None:
         trial.check(f"by log, {line}", commands.run(*other.words(other.by)).why_not_stopped(line))
     other = World(trial, "other", "-", "b.ok")
     trial.check("by log, a purged log", commands.run(*other.words(other.by)).why_not_stopped("refused 159 file "))
-    for words in ["--from-snapshot"], ["--anew-behind"]:
-        trial.check(f"by log, {words}", None if commands.run(*other.words(other.by, *words)).status == 2 else "another status")
+    trial.check("by log, --anew-behind", None if commands.run(*other.words(other.by, "--anew-behind")).status == 2 else "another status")
     trial.server.sql("DROP DATABASE b; RESET MASTER; " + "".join(f"DROP DATABASE IF EXISTS {schema}; " for schema in SCHEMAS))
+
+
+AMID_THE_LOG = [
+    ("an index", "CREATE INDEX i ON o.t (v); INSERT INTO o.t VALUES (2, 2)",
+     "the log's copies: refused 152 file {}.logs/binlog.000001 table t: the recorder"),
+    ("behind it", "INSERT INTO o.t VALUES (3, 3)", ""),
+    ("a packed log", "SET GLOBAL log_bin_compress=1; INSERT INTO o.t VALUES (4, 4)", "log_bin_compress is on: the recorder"),
+    ("a log that was packed", "USE o; SET GLOBAL log_bin_compress_min_len=10; INSERT INTO t SELECT seq, 1 FROM seq_100_to_300; SET GLOBAL log_bin_compress=0", None),
+    ("an XA transaction", "XA START 'o'; INSERT INTO o.t VALUES (5, 5); XA END 'o'; XA PREPARE 'o'", None),
+    ("its end in another file", "FLUSH BINARY LOGS; XA COMMIT 'o'", None),
+    ("another file", "FLUSH BINARY LOGS; INSERT INTO o.t VALUES (6, 6)", None),
+    ("behind that", "INSERT INTO o.t VALUES (9, 6)", ""),
+]  # fmt: skip
+"""What stands in the log behind a recording, and the line of the next one: none, or one where the program may know more some day."""
+UNTOLD = [("float", ["o.t", "o.f"], "column f, which is FLOAT32, in o.f: the recorder"), ("name", ["o.t u"], "a table's name that isn't plain (t u): the recorder")]
+WHILE_IT_LIVES = [
+    ("INSERT INTO o.e VALUES (1)", 1),
+    ("ALTER TABLE o.t COMMENT='c'; OPTIMIZE TABLE o.t; INSERT INTO o.t VALUES (20, 1)", 2),
+    ("INSERT INTO o.t VALUES (21, 1)", 2),
+    ("ALTER TABLE o.t ADD INDEX j (v); INSERT INTO o.t VALUES (22, 1)", 3),
+]
+"""Statements, and how many lines say behind them that the recorder has read something."""
+
+
+def _goes_on(trial, world: World, name: str, line: str, *words: str) -> None:
+    """Checks that a recording by the program is helped by the recorder, with a line that says so, and has the recorder's groups."""
+    done = commands.run(*world.either(*words))
+    commands.run(*world.words(world.own, *words))
+    said = f"feed: {line.format(world.by)}" if line else ""
+    fine = done.status == 0 and done.err.startswith(said) and done.err.count("\n") == bool(line) and done.err.count("reads the log in the program's place") == bool(line)
+    trial.check(f"either way, {name}", None if fine and world.changes(world.by) == world.changes(world.own) else f"{done}")
+
+
+def _lets_go(trial) -> None:
+    """Copies that are large go, though a table has had no rows; its first ones the recorder reads."""
+    trial.server.sql("RESET MASTER; CREATE DATABASE w; CREATE TABLE w.t (id INT PRIMARY KEY); CREATE TABLE w.e (id INT PRIMARY KEY); INSERT INTO w.t VALUES (1)")
+    world = World(trial, "goes", "-", "w.t", "w.e")
+    _goes_on(trial, world, "an empty table", "")
+    trial.server.sql("FLUSH BINARY LOGS; INSERT INTO w.t VALUES (2)")
+    done = commands.run(*world.either("--append"), prepare=_keeps_none)
+    commands.run(*world.words(world.own, "--append"))
+    trial.check("either way, large copies", None if not (done.status or done.err) and world.copies() == logs_of(trial)[-1:] else f"{done}, {world.copies()}")
+    trial.server.sql("INSERT INTO w.e VALUES (3)")
+    _goes_on(trial, world, "the first rows of a table", f"the log's copies: refused 159 file {world.by}.logs/binlog.000002 table e: the recorder", "--append")
+    trial.server.sql("DROP DATABASE w")
+
+
+def _keeps_none() -> None:
+    from recorder import bylog as module
+
+    module.MOST_KEPT = 0
+
+
+def _without_memory() -> None:
+    from recorder import bylog as module
+
+    module.free_memory = lambda: 100
+
+
+def either(trial) -> None:
+    """What the program can't tell of a server, of tables and of a feed, the recorder reads, and a line says so; what it refuses amid the
+    log the recorder reads too, unless that stops at it, with its own line; and where the program can't be run."""
+    trial.server.sql("RESET MASTER; CREATE DATABASE o; CREATE TABLE o.t (id INT PRIMARY KEY, v INT); CREATE TABLE o.f (id INT PRIMARY KEY, f FLOAT);"
+                     " CREATE TABLE o.`t u` (id INT PRIMARY KEY); INSERT INTO o.t VALUES (1, 1); INSERT INTO o.f VALUES (1, 1.5)")  # fmt: skip
+    world = World(trial, "either", "-", "o.t")
+    _goes_on(trial, world, "a table", "")
+    for name, text, line in AMID_THE_LOG:
+        trial.server.sql(text)
+        if line is None:
+            # (the program may know more of these)
+            done = commands.run(*world.either("--append"))
+            commands.run(*world.words(world.own, "--append"))
+            waits = "is prepared" in done.err and "XA PREPARE" in text
+            fine = done.status == waits and world.changes(world.by) == world.changes(world.own)
+            trial.check(f"either way, {name}", None if fine else f"{done}")
+        else:
+            _goes_on(trial, world, name, line, "--append")
+    for name, tables, line in UNTOLD:
+        _goes_on(trial, World(trial, f"either.{name}", "-", *tables), name, line)
+    plain = [word for word in world.either() if word not in ("--keyspace", "ks", world.by)]
+    at = plain.index("--out") + 1
+    done = commands.run(*plain[:at], trial.path("either.gtids"), *plain[at:])
+    trial.check("either way, no keyspace", None if done.status == 0 and done.err.startswith("feed: positions without a keyspace: the recorder") else f"{done}")
+    nowhere = ["/nowhere" if word == trial.program else word for word in world.either("--append")]
+    trial.server.sql("INSERT INTO o.t VALUES (7, 7)")
+    done = commands.run(*nowhere)
+    trial.check("either way, no program", None if done.status == 0 and "no program at /nowhere" in done.err else f"{done}")
+    trial.server.sql("INSERT INTO o.t VALUES (11, 7)")
+    done = commands.run(*world.either("--append"), prepare=_without_memory)
+    trial.check("either way, no memory", None if done.status == 0 and "of memory are wanted for the log's copies and the feed" in done.err else f"{done}")
+    trial.server.sql("TRUNCATE o.t")
+    trial.check("either way, TRUNCATE", commands.run(*world.either("--append")).why_not_stopped("TRUNCATE of a recorded table, o.t"))
+    done = commands.run(*world.either("--anew-behind"))
+    trial.check("either way, --anew-behind", None if done.status == 0 and done.err.startswith("feed: --anew-behind: the recorder") else f"{done}")
+    trial.server.sql("INSERT INTO o.t VALUES (8, 8)")
+    done = commands.run(*world.either("--append"))
+    workflow = trial.workflow("either.json", ["-"], ["o.t"])
+    trial.same("either way, behind --anew-behind", trial.made(trial.program, "run", workflow, world.by), trial.selected(workflow, "o"))
+    trial.check("either way, the program again", f"{done}" if done.status or done.err else None)
+    _lets_go(trial)
+
+
+def either_forever(trial) -> None:
+    """One that lives has the recorder read a transaction that the program refuses, and goes on by the program; an empty table of a
+    snapshot has its first rows; a table more comes in."""
+    trial.server.sql("CREATE TABLE o.e (id INT PRIMARY KEY)")
+    trial.server.purge(_next(trial))
+    world = World(trial, "lives", "-", "o.t", "o.e")
+    one = Command(*world.either("--from-snapshot", "--forever"))
+    one.awaits(lambda: one.has_said("going on"), "either way")
+    for number, (text, lines) in enumerate(WHILE_IT_LIVES, 1):
+        trial.server.sql(text)
+        one.awaits(lambda number=number: len(world.changes(world.by)) == number + 1, text)
+        one.awaits(lambda lines=lines: one.has_said("reads the log in the program's place", lines) and one.has_said("going on", lines + 1), text)
+    one.kill(signal.SIGTERM)
+    done, noted = one.wait(), json.loads(read_file(f"{world.by}.json"))
+    workflow = trial.workflow("lives.json", ["-"], ["o.t", "o.e"])
+    trial.same("either way, one that lives", trial.made(trial.program, "run", workflow, world.by), trial.selected(workflow, "o"))
+    lines = done.err.count("the recorder reads the log in the program's place")
+    trial.check("either way, lines of one that lives", None if done.status == 0 and lines == 3 and noted["recorder"] != noted["gtids"] else f"{done}, {noted}")
+    trial.server.sql("CREATE TABLE o.m (id INT PRIMARY KEY); INSERT INTO o.m VALUES (1)")
+    one = Command(*("/nowhere" if word == trial.program else word for word in world.either("--append", "--forever")))
+    one.awaits(lambda: one.has_said("no program at /nowhere") and one.has_said("going on"), "no program")
+    trial.server.sql("INSERT INTO o.e VALUES (30)")
+    one.awaits(lambda: b"+ e\tx3330\n" in world.shown(world.by), "a transaction without a program")
+    one.kill(signal.SIGTERM)
+    trial.check("either way, one that lives without a program", None if one.wait().status == 0 else "another status")
+    more = World(trial, "lives", "-", "o.t", "o.e", "o.m")
+    one = Command(*more.either("--append", "--forever"))
+    one.awaits(lambda: one.has_said("a table more than the feed has (o.m): the recorder") and one.has_said("going on"), "a table more")
+    trial.server.sql("INSERT INTO o.m VALUES (2); ALTER TABLE o.m ADD w INT")
+    done = one.wait()
+    fine = done.status == 1 and "in o.m: go on with --anew-behind" in done.err.splitlines()[-1] and b"+ m\tx32" in more.shown(more.by)
+    trial.check("either way, a stop of one that lives", None if fine else f"{done}")
+    trial.server.sql("DROP DATABASE o")
+
+
+def upgraded(trial) -> None:
+    """A feed of the recorder that a note without `recorder` tells of, and one that it left beside an XA transaction: each goes on, and has
+    all bytes that were there."""
+    trial.server.sql("RESET MASTER; CREATE DATABASE g; CREATE TABLE g.t (id INT PRIMARY KEY); INSERT INTO g.t VALUES (1)")
+    world = World(trial, "upgraded", "-", "g.t")
+
+    def lives(number: int, xa: str, lines: int, *words: str) -> bytes:
+        one = Command(*words)
+        one.awaits(lambda: one.has_said("going on"), "upgraded")
+        for text in xa, f"INSERT INTO g.t VALUES ({number})":
+            trial.server.sql(text)
+        one.awaits(lambda: b"+ t\tx%b\n" % str(number).encode().hex().encode() in world.shown(world.by), "a transaction")
+        one.kill(signal.SIGTERM)
+        done = one.wait()
+        trial.check(f"upgraded, {number}", None if done.status == 0 and done.err.count("groups of the recorder behind the note's end") == lines else f"{done}")
+        return read_file(world.by)
+
+    commands.run(*(word for word in world.either("--by-recorder", "--from-snapshot") if word not in ("--program", trial.program)))
+    note = json.loads(read_file(f"{world.by}.json"))
+    del note["recorder"]
+    with open(f"{world.by}.json", "w", encoding="utf-8") as file:
+        json.dump(note, file)
+    seen = read_file(world.by)
+    for number, xa, lines, way in [(2, "SELECT 1", 0, []), (3, "XA START 'g'; INSERT INTO g.t VALUES (70); XA END 'g'; XA PREPARE 'g'", 0, ["--by-recorder"]), (4, "SELECT 1", 1, []),
+                                   (5, "XA COMMIT 'g'", 1, []), (6, "SELECT 1", 0, [])]:  # fmt: skip
+        words = world.either("--append", "--forever", *way)
+        data = lives(number, xa, lines, *(word for word in words if not way or word not in ("--program", trial.program)))
+        trial.check(f"upgraded, {number}, what was there", None if data.startswith(seen) else "changed")
+        seen = data
+    workflow = trial.workflow("upgraded.json", ["-"], ["g.t"])
+    trial.same("upgraded, rows", trial.made(trial.program, "run", workflow, world.by), trial.selected(workflow, "g"), 7)
+    trial.server.sql("DROP DATABASE g")
+
+
+def _next(trial) -> str:
+    """The log that is begun next."""
+    name, _, number = logs_of(trial)[-1].rpartition(".")
+    return f"{name}.{int(number) + 1:06d}"
 
 
 def bylog(trial) -> None:
     commands.command()
-    for step in loaded, killed, rotated, interrupted, waited, refused, altered:
+    for step in loaded, killed, rotated, interrupted, waited, refused, altered, either, either_forever, upgraded:
         step(trial)

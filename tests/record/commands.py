@@ -115,7 +115,9 @@ def _run(name: str, words: tuple[str, ...], prepare: Callable[[], None]) -> int:
     from recorder import ending
 
     module = command(name)
-    sys.argv = [f"record/{name}", *words]
+    # a trial of the program's reading names the program
+    way = ["--by-recorder"] if name == "feed" and not {"--program", "--by-recorder"} & set(words) else []
+    sys.argv = [f"record/{name}", *way, *words]
     for number in SIGNALS:
         signal.signal(number, signal.default_int_handler)
     ending._SIGNALS = ending._Signals()
@@ -138,6 +140,7 @@ def command(name: str = "feed"):
         import gettext  # noqa: F401
 
         import recorder.behind  # noqa: F401
+        import recorder.bylog  # noqa: F401
         import recorder.compacting  # noqa: F401
         import recorder.comparing  # noqa: F401
         import recorder.forever  # noqa: F401

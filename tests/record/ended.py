@@ -124,7 +124,7 @@ def odd_notes(trial, place: Place) -> None:
         "empty": b"", "bytes": bytes(range(256)), "a list": b"[]", "deep": b"[" * 100000, "null": b"null", "a number": b"1e400",
         **{f"without {name}": json.dumps({**{one: data[one] for one in data if one != name}, "more": 1}).encode() for name in data},
         **{f"{name} {value!r}": json.dumps({**data, name: value}).encode() for name in data for value in (None, {}, "x", 1.5, True, [1])
-           if type(value) is not type(data[name]) and (name, value) not in (("begun", None), ("server_id", None), ("keyspace", "x"))},
+           if type(value) is not type(data[name]) and (name, value) not in (("begun", None), ("server_id", None), ("keyspace", "x"), ("recorder", None))},
     }  # fmt: skip
     for name, text in notes.items():
         write_file(place.feed + ".json", text)
@@ -137,7 +137,7 @@ def odd_notes(trial, place: Place) -> None:
         write_file(place.feed, other)
         check_stopped(trial, name, place, ["--append", *place.words], "a feed that isn't the one of its note in ")
     write_file(place.feed, feed)
-    old = {name: value for name, value in data.items() if name not in ("last", "server_id", "keyspace", "turn", "past", "keys")}
+    old = {name: value for name, value in data.items() if name not in ("last", "server_id", "keyspace", "turn", "past", "keys", "recorder")}
     write_file(place.feed + ".json", json.dumps(old).encode())
     done = commands.run("--append", *place.words)
     now = json.loads(read_file(place.feed + ".json"))
@@ -197,7 +197,7 @@ def odd_servers(trial, place: Place) -> None:
 
 def odd_outputs(trial, place: Place) -> None:
     """Standard output and error that can't be written, or are closed, in a process of Python's own."""
-    begun = [os.path.join(ROOT, "record/feed"), *place.words]
+    begun = [os.path.join(ROOT, "record/feed"), "--by-recorder", *place.words]
     told = {**os.environ, "PYTHONDONTWRITEBYTECODE": "1"}
     for name, redirected, status, text in [
         ("a full output", ">/dev/full", 1, b"feed: standard output can't be written: No space left on device\n"),
@@ -325,7 +325,7 @@ def interrupted(trial, place: Place) -> None:
         why = done.why_not_stopped("ended by SIGTERM: no feed was made") or (f"{place.left()} left" if place.left() else None)
         faults += [f"in a callback at reading {number}: {why}"] if why else []
     for _ in range(12):
-        with subprocess.Popen([os.path.join(ROOT, "record/feed"), "--from-snapshot", *words], stdout=subprocess.PIPE, stderr=subprocess.PIPE,
+        with subprocess.Popen([os.path.join(ROOT, "record/feed"), "--by-recorder", "--from-snapshot", *words], stdout=subprocess.PIPE, stderr=subprocess.PIPE,
                               env={**os.environ, "PYTHONDONTWRITEBYTECODE": "1"}) as one:  # fmt: skip
             while one.poll() is None and not meets_signals(one.pid):
                 time.sleep(0.002)

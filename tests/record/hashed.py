@@ -35,13 +35,14 @@ def changes(chance: random.Random) -> dict[int, list[str]]:
 
 def resharded(trial) -> None:
     """Two source shards into four targets, each with the rows of its range and no others."""
+    for schema in SCHEMAS:
+        trial.server.sql(f"CREATE DATABASE {schema}; CREATE TABLE {schema}.t (id BIGINT UNSIGNED PRIMARY KEY, v VARCHAR(40))")
     for shard, statements in changes(random.Random(74)).items():
-        made = f"CREATE DATABASE {SCHEMAS[shard]}; USE {SCHEMAS[shard]}; CREATE TABLE t (id BIGINT UNSIGNED PRIMARY KEY, v VARCHAR(40)); BEGIN; "
-        trial.server.sql(made + "; ".join(one + ("; COMMIT; BEGIN" if at % 3 else "") for at, one in enumerate(statements)) + "; COMMIT; ")
+        trial.server.sql(f"USE {SCHEMAS[shard]}; BEGIN; " + "; ".join(one + ("; COMMIT; BEGIN" if at % 3 else "") for at, one in enumerate(statements)) + "; COMMIT; ")
     feeds, snapshots = ([trial.path(f"{schema}.{kind}") for schema in SCHEMAS] for kind in ("feed", "snapshot"))
     for schema, shard, feed, snapshot in zip(SCHEMAS, SHARDS, feeds, snapshots):
-        trial.recorded("--shard", shard, "--out", feed, f"{schema}.t")
-        trial.recorded("--shard", shard, "--out", snapshot, "--from-snapshot", f"{schema}.t")
+        trial.recorded_twice(shard, feed, f"{schema}.t")
+        trial.recorded_twice(shard, snapshot, "--from-snapshot", f"{schema}.t")
     tables = [f"{SCHEMAS[0]}.t"]
     whole = trial.selected(trial.workflow("hashed.json", SHARDS, tables, *WORDS), *SCHEMAS).splitlines()
     for target in TARGETS:

@@ -99,8 +99,8 @@ def over_files(trial) -> None:
         is_last = number == len(XA_FILES) - 1
         trial.check(f"XA over {number + 1} files", None if is_last or (done.returncode, done.stdout, done.stderr) == (1, b"", line) else repr(done))
     feed, by_log, made = trial.path("xa.feed"), trial.path("xa_bylog.feed"), trial.path("xa_made.feed")
-    trial.recorded("--shard", "-", "--keyspace", "ks", "--out", feed, f"{SCHEMA}.t")
-    trial.recorded("--shard", "-", "--keyspace", "ks", "--by-log", "--program", trial.program, "--out", by_log, f"{SCHEMA}.t")
+    trial.recorded("--shard", "-", "--keyspace", "ks", "--by-recorder", "--out", feed, f"{SCHEMA}.t")
+    trial.recorded("--shard", "-", "--keyspace", "ks", "--out", by_log, f"{SCHEMA}.t")
     trial.made(trial.program, "transcribe", "--save-to", made, *words, workflow, *logs)
     shown = [trial.made(trial.program, "show", "--keyspace", "ks", "--shard", "-", of) for of in (feed, by_log, made)]
     trial.check("XA over files, as recorded", None if shown[0] == shown[1] == shown[2] else repr(shown))
@@ -108,9 +108,9 @@ def over_files(trial) -> None:
     trial.server.sql(f"DROP DATABASE {SCHEMA}; RESET MASTER")
 
 
-def transcribed(trial) -> None:
+def transcribed(trial, rounds: int = ROUNDS) -> None:
     """Five checks a batch, one of all collations, and seven of XA transactions."""
-    for begin in range(0, ROUNDS, BATCH):
+    for begin in range(0, rounds, BATCH):
         r = random.Random(f"transcribed {begin}")
         labels = begin // BATCH % 2 == 0
         metadata = "FULL" if labels else r.choice(["MINIMAL", "NO_LOG"])
@@ -120,9 +120,9 @@ def transcribed(trial) -> None:
                 _make(trial, connection, number, labels, r)
         tables = [f"{SCHEMA}.t{number}" for number in range(begin, begin + BATCH)]
         workflow, feed = trial.workflow("transcribed.json", ["-"], tables), trial.path("transcribed.feed")
-        trial.recorded("--shard", "-", "--keyspace", "ks", "--out", feed, *tables)
+        trial.recorded("--shard", "-", "--keyspace", "ks", "--by-recorder", "--out", feed, *tables)
         logs, made, by_log = log_files(trial), trial.path("made.feed"), trial.path("bylog.feed")
-        trial.recorded("--shard", "-", "--keyspace", "ks", "--by-log", "--program", trial.program, "--out", by_log, *tables)
+        trial.recorded("--shard", "-", "--keyspace", "ks", "--out", by_log, *tables)
         told = trial.made(trial.program, "transcribe", "--save-to", made, "--shard", "-", "--schema", SCHEMA, workflow, *logs)
         trial.check(f"transcribed {begin} tells nothing", repr(told) if told else None)
         rows = trial.made(trial.program, "run", workflow, made)

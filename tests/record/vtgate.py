@@ -46,12 +46,18 @@ def groups_of(feed: bytes) -> list[Response]:
             groups.append(message)
         else:
             groups[-1].MergeFrom(message)
-        is_whole = any(event.type == EventType.GTID for event in message.events)
+        is_whole = any(event.type in (EventType.GTID, EventType.VGTID) for event in message.events)
     return groups
 
 
+POSITIONS = (EventType.GTID, EventType.VGTID)
+
+
 def gtid_of(group: Response) -> str:
-    return next(event.gtid for event in group.events if event.type == EventType.GTID)
+    """A group's position, as VTGate sends it, also where the program has written it, which leaves the flavour out."""
+    event = next(event for event in group.events if event.type in POSITIONS)
+    gtid = event.gtid if event.type == EventType.GTID else event.vgtid.shard_gtids[0].gtid
+    return gtid if "/" in gtid else f"MySQL56/{gtid}"
 
 
 def answers(feed: bytes, keyspace: str, shard: str, behind: str = "current") -> Iterator[Response]:
@@ -72,8 +78,8 @@ def parts(group: Response, keyspace: str, shard: str, fields: dict) -> Iterator[
         return
     part = Response()
     for event in group.events:
-        if event.type == EventType.GTID:
-            part.MergeFrom(position(keyspace, shard, event.gtid))
+        if event.type in POSITIONS:
+            part.MergeFrom(position(keyspace, shard, gtid_of(group)))
         elif event.type == EventType.ROW:
             table = event.row_event.table_name
             if table in fields:

@@ -116,7 +116,7 @@ def recorded(trial) -> None:
     joined, copies = [], []
     keys = {table.name: primary_key(table.made) for table in TABLES}
     for schema, shard in zip(SCHEMAS, SHARDS):
-        feed = read_file(trial.path(f"{schema}.feed"))
+        feed = read_file(trial.path(f"{schema}.feed.own"))
         several = len(list(frames(feed))) - len(groups_of(feed))
         trial.check(f"groups of several messages in {schema}", None if several or schema != SCHEMAS[0] else "none")
         middle = [one.position for one in transactions(sent(answers(feed, "ks", shard)), Reading("ks", shard))]
