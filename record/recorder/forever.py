@@ -20,9 +20,9 @@ from .stop import AGAIN, Lost, Refused, Stop
 from .transactions import Transaction
 
 TOGETHER = 0.25
-LONG = 2
-"""The seconds from which on a reading by the program is said to take long."""
-SHORTER = "a smaller max_binlog_size, record/compact and rows in each table make that less, and --by-recorder reads otherwise"
+LONG = 5
+"""The seconds from which on a reading by the program takes too long: transactions come as late."""
+SHORTER = "a smaller max_binlog_size, record/compact and rows in each table make that less"
 MOST_HANDED_OVER = 2
 """How often one behind the other the recorder reads what the program refuses, before it goes on by itself."""
 FIRST_PAUSE, LONGEST_PAUSE = 0.5, 30
@@ -266,6 +266,7 @@ class _LiveByLog(_Live):
                 elif whole and whole != self._whole and time.monotonic() >= self._put_at + self._least:
                     self._round()
                     self._whole = whole
+                    self._look_at_time()
                 self._look_at_lock()
         raise recording.lost()
 
@@ -284,9 +285,17 @@ class _LiveByLog(_Live):
                 stop.transaction = recording.copies.marks[0].gtid
             raise
         self._least = max(TOGETHER, time.monotonic() - begun)
-        if self._least > LONG and not self._is_long:
-            self._is_long = True
-            tell(f"feed: {self._recording.wanted.out}: a reading takes {self._least:.0f} seconds, and transactions come as late: {SHORTER}")
+
+    def _look_at_time(self) -> None:
+        """Leaves the log to the recorder where a reading takes too long, or says so where the program is to read alone."""
+        wanted = self._recording.wanted
+        if self._least <= LONG or self._is_long:
+            return
+        self._is_long = True
+        slow = Refused(f"{wanted.out}: a reading takes {self._least:.0f} seconds", "", SHORTER, None)
+        if wanted.is_handed_over(slow):
+            raise slow
+        tell(f"feed: {slow}")
 
     def _transcribe(self, is_last: bool) -> None:
         recording, groups = self._recording, self._recording.groups
