@@ -142,6 +142,10 @@ class Session:
             # (its output has ended, and so has it, mostly)
             await self._ends_within(1)
         await self.kill()
+        # (why the input was closed is known by now, and the library would print it)
+        with contextlib.suppress(OSError, TimeoutError):
+            self._input.close()
+            await asyncio.wait_for(self._input.wait_closed(), 1)
         status = self._process.returncode or 0
         said = "; ".join(self._errors)
         gone = Gone("the program has ended", f"({f'status {status}' if status >= 0 else f'signal {-status}'})", why or said or "it said nothing")
