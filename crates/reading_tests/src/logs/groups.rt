@@ -317,6 +317,17 @@ fn read_all(alloc: Global, logs: &[Vec<u8>]) -> Result<(Vec<u8>, Option<GroupFau
     Ok((found, None))
 }
 
+/// Whether logs have groups of so many changes, and end so.
+fn are_read_as(
+    alloc: Global,
+    logs: &[Vec<u8>],
+    wanted: &[u8],
+    end: Option<GroupFault>,
+) -> Result<bool, AllocError> {
+    let (found, fault) = read_all(alloc, logs)?;
+    Ok(found.as_slice() == wanted && fault == end)
+}
+
 /// Whether logs of these events have groups of so many changes, and end so.
 fn commit(
     alloc: Global,
@@ -328,8 +339,7 @@ fn commit(
     for events in logs {
         all.push(log_with(alloc, events)?)?;
     }
-    let (found, fault) = read_all(alloc, &all)?;
-    Ok(found.as_slice() == wanted && fault == end)
+    are_read_as(alloc, &all, wanted, end)
 }
 
 /// The same of one log.
@@ -339,7 +349,9 @@ fn commits(
     wanted: &[u8],
     end: Option<GroupFault>,
 ) -> Result<bool, AllocError> {
-    commit(alloc, &[events], wanted, end)
+    let mut all = Vec::new(alloc);
+    all.push(log_with(alloc, events)?)?;
+    are_read_as(alloc, &all, wanted, end)
 }
 
 #[test]

@@ -111,13 +111,27 @@ fn logs_of(alloc: Global, logs: &[Log]) -> Result<Vec<Vec<u8>>, AllocError> {
     Ok(all)
 }
 
-/// The feed of logs of the table.
-fn told(alloc: Global, logs: &[Vec<u8>]) -> Result<Result<Vec<u8>, LogsFault>, AllocError> {
+/// A log of these events whose server was still writing it.
+fn in_use(alloc: Global, events: Log) -> Result<Vec<u8>, AllocError> {
+    let mut log = log_with(alloc, events)?;
+    if let Some(byte) = log.get_mut(21) {
+        *byte = 1;
+    }
+    Ok(log)
+}
+
+/// The bytes of each log.
+fn slices_of<'l>(alloc: Global, logs: &'l [Vec<u8>]) -> Result<Vec<&'l [u8]>, AllocError> {
     let mut slices = Vec::new(alloc);
     for log in logs {
         slices.push(log.as_slice())?;
     }
-    feed_of(alloc, "t", 6165, &slices)
+    Ok(slices)
+}
+
+/// The feed of logs of the table.
+fn told(alloc: Global, logs: &[Vec<u8>]) -> Result<Result<Vec<u8>, LogsFault>, AllocError> {
+    feed_of(alloc, "t", 6165, &slices_of(alloc, logs)?)
 }
 
 #[test]
@@ -152,9 +166,11 @@ fn without_their_beginning_or_end(rt: HostRuntime) -> Result<(), AllocError> {
 /// A log that its server wrote when it crashed ends inside of a transaction: what was prepared waits all the same.
 #[test]
 fn behind_a_crash(rt: HostRuntime) -> Result<(), AllocError> {
-    let mut logs = logs_of(rt.alloc(), &[PREPARES_AND_ENDS_INSIDE, COMMITS_AT_ONCE])?;
-    // the flag that says that the server is still writing
-    logs[0][21] = 1;
+    let mut logs = Vec::new(rt.alloc());
+    logs.push(in_use(rt.alloc(), PREPARES_AND_ENDS_INSIDE)?)?;
+    let waits = told(rt.alloc(), &logs)?;
+    assert!(rt; matches!(&waits, Err(fault) if fault.number() == 156 && fault.file() == 0));
+    logs.push(log_with(rt.alloc(), COMMITS_AT_ONCE)?)?;
     let Ok(feed) = told(rt.alloc(), &logs)? else {
         return Err(AllocError);
     };
@@ -162,8 +178,6 @@ fn behind_a_crash(rt: HostRuntime) -> Result<(), AllocError> {
         return Err(AllocError);
     };
     assert!(rt; feed == same);
-    let waits = told(rt.alloc(), &logs[..1])?;
-    assert!(rt; matches!(&waits, Err(fault) if fault.number() == 156 && fault.file() == 0));
     Ok(())
 }
 
@@ -174,7 +188,7 @@ fn behind_a_feed_that_waits(rt: HostRuntime) -> Result<(), AllocError> {
     let Ok(whole) = told(rt.alloc(), &logs)? else {
         return Err(AllocError);
     };
-    let slices = [logs[0].as_slice(), logs[1].as_slice(), logs[2].as_slice()];
+    let slices = slices_of(rt.alloc(), &logs)?;
     let Ok(all) = behind_of(rt.alloc(), 6165, &[], &slices)? else {
         return Err(AllocError);
     };
@@ -183,7 +197,8 @@ fn behind_a_feed_that_waits(rt: HostRuntime) -> Result<(), AllocError> {
     let Ok(feed) = told(rt.alloc(), &made)? else {
         return Err(AllocError);
     };
-    let lacks = behind_of(rt.alloc(), 6165, &feed, &[logs[2].as_slice()])?;
+    let last = logs_of(rt.alloc(), &[COMMITS])?;
+    let lacks = behind_of(rt.alloc(), 6165, &feed, &slices_of(rt.alloc(), &last)?)?;
     assert!(rt; matches!(&lacks, Err(fault) if fault.number() == 156));
     let Ok(more) = behind_of(rt.alloc(), 6165, &feed, &slices)? else {
         return Err(AllocError);
