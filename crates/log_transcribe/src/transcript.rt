@@ -6,13 +6,19 @@ ghost use Rattle.log_feed.specs.declared.table.Stage.TheVariants.{Absent};
 ghost use Rattle.log_course.specs.Calls.{placed_value};
 ghost use Rattle.log_laws.specs.Source.{IsSource};
 ghost use Rattle.log_laws.specs.Transcript.{group_told, last_told};
-ghost use Rattle.log_transcribe.specs.Fault.{meant, of_tell};
+ghost use Rattle.log_transcribe.specs.Fault.{meant, of_logs, of_tell};
 ghost use Rattle.log_transcribe.specs.Transcript.{source_value, course_told, log_told, logs_told, nothing_told, feed_told, feed_of_logs};
 ghost use Rattle.log_transcribe.specs.Feed.{IsFeedOfLogs};
-ghost use Rattle.log_transcribe.specs.Private.Bytes.{course_error_at, change_error_at, tell_error_at, with_messages, last_with, bytes_told, PutsNext};
+ghost use Rattle.log_transcribe.specs.Streamed.{EndsSo};
+ghost use Rattle.log_transcribe.specs.Private.Bytes.{course_error_at, change_error_at, tell_error_at, with_messages, last_with, PutsNext};
+ghost use Rattle.log_transcribe.specs.Private.Sends.{Puts, PutsEnd, PutsFile, PutsFiles, PutsOne, TellsAll, sending};
 
-use crate::fault::{LogsError, LogsFault, TellError};
+use crate::fault::{LogsError, LogsFault, StreamError, TellError};
+use crate::files::{LentLogs, LogFiles, ReadFault};
 use crate::message::{put_events, put_last};
+use crate::outgoing::Outgoing;
+use crate::place::{at_begin, bytes_read, inside, nowhere};
+use crate::spool::Spool;
 use gtid_set::GtidSet;
 use log_course::{CourseError, LogGroups, PlacedGroup, courses_are_read};
 use log_events::CrcTable;
@@ -21,6 +27,7 @@ use log_laws::{
     TellFault, courses_rise, ends_are_told, feeds_have_their_groups, messages_are_read,
     transactions_are_told, transactions_reach,
 };
+use printing::Out;
 use std::alloc::{AllocError, Global};
 use std::marker::Model;
 
@@ -151,20 +158,46 @@ impl<'t, 'w> Transcript<'t, 'w> {
         }
     }
 
-    /// Appends the messages of the transactions of the file at a place.
-    fn put_groups(
+    /// Tells the next transaction of the file at a place, if there is one, and answers that.
+    fn send_next<W: Out>(
         &mut self,
         alloc: Global,
-        out: &mut Vec<u8>,
+        out: &mut W,
+        outgoing: &mut Outgoing,
         file: usize,
+        bytes: &[u8],
+        groups: &mut LogGroups<'_, '_>,
+    ) -> Result<bool, StreamError>
+        ensures told { PutsOne (course_told file self.old.source groups.old.groups self.old.far) (course_told file self.old.source groups.new.groups self.new.far) self.new.far (length groups.old.groups.items) (length groups.new.groups.items) result (sending (W.written out.old) outgoing.old) (sending (W.written out.new) outgoing.new) }
+        ensures source { self.new.source ≡ self.old.source }
+    {
+        let begin = bytes_read(bytes, groups);
+        let more = match self.put_next(alloc, &mut outgoing.waits, file, groups) {
+            Ok(more) => more,
+            Err(error) => return Err(inside(bytes, begin, bytes_read(bytes, groups), error)),
+        };
+        match outgoing.send_portion(out) {
+            Ok(()) => Ok(more),
+            Err(error) => Err(error),
+        }
+    }
+
+    /// Tells the transactions of the file at a place, which has these bytes.
+    fn send_groups<W: Out>(
+        &mut self,
+        alloc: Global,
+        out: &mut W,
+        outgoing: &mut Outgoing,
+        file: usize,
+        bytes: &[u8],
         groups: LogGroups<'_, '_>,
-    ) -> Result<(), LogsError>
-        ensures told { GivesUnless meant (λ x. (out.new.items, self.new.far)) result (with_messages (course_told file self.old.source groups.entry.groups self.old.far) out.old.items) }
+    ) -> Result<(), StreamError>
+        ensures told { Puts (course_told file self.old.source groups.entry.groups self.old.far) self.new.far result (sending (W.written out.old) outgoing.old) (sending (W.written out.new) outgoing.new) }
         ensures source { self.new.source ≡ self.old.source }
     {
         let mut groups = groups;
         loop {
-            match self.put_next(alloc, out, file, &mut groups) {
+            match self.send_next(alloc, out, outgoing, file, bytes, &mut groups) {
                 Ok(more) => {
                     if !more {
                         return Ok(());
@@ -175,63 +208,96 @@ impl<'t, 'w> Transcript<'t, 'w> {
         }
     }
 
-    /// Appends the messages of the file at a place.
-    fn put_log(
+    /// Tells the file at a place.
+    fn send_log<W: Out>(
         &mut self,
         alloc: Global,
-        out: &mut Vec<u8>,
+        out: &mut W,
+        outgoing: &mut Outgoing,
         table: &CrcTable,
         file: usize,
         bytes: &[u8],
-    ) -> Result<(), LogsError>
-        ensures told { GivesUnless meant (λ x. (out.new.items, self.new.far)) result (with_messages (log_told file self.old.source bytes.now self.old.far) out.old.items) }
+    ) -> Result<(), StreamError>
+        ensures told { Puts (log_told file self.old.source bytes.now self.old.far) self.new.far result (sending (W.written out.old) outgoing.old) (sending (W.written out.new) outgoing.new) }
         ensures source { self.new.source ≡ self.old.source }
     {
         let reached = copy_of(alloc, &self.reached)?;
         match LogGroups::open(alloc, table, reached, bytes) {
-            Ok(groups) => self.put_groups(alloc, out, file, groups),
-            Err(error) => Err(of_course(file, error)),
+            Ok(groups) => self.send_groups(alloc, out, outgoing, file, bytes, groups),
+            Err(error) => Err(at_begin(bytes, of_course(file, error))),
         }
     }
 
-    /// Appends the messages of files.
-    fn put_logs(
+    /// Reads the file at a place, and tells it.
+    fn send_file<L: LogFiles, W: Out>(
         &mut self,
         alloc: Global,
-        out: &mut Vec<u8>,
+        out: &mut W,
+        outgoing: &mut Outgoing,
         table: &CrcTable,
-        logs: &[&[u8]],
-    ) -> Result<(), LogsError>
-        ensures told { GivesUnless meant (λ x. (out.new.items, self.new.far)) result (with_messages (logs_told 0 self.old.source (map (λ log. log.now) logs.now) self.old.far) out.old.items) }
+        files: &L,
+        file: usize,
+    ) -> Result<(), StreamError>
+        ensures told { PutsFile (λ file bytes far. log_told file self.old.source bytes far) (L.gives files.now) file self.old.far self.new.far result (sending (W.written out.old) outgoing.old) (sending (W.written out.new) outgoing.new) }
         ensures source { self.new.source ≡ self.old.source }
     {
-        for file in 0..logs.len() {
-            if let Err(error) = self.put_log(alloc, out, table, file, logs[file]) {
+        match files.read(file) {
+            Ok(log) => self.send_log(alloc, out, outgoing, table, file, log.as_slice()),
+            Err(ReadFault::Memory) => Err(StreamError::Memory),
+            Err(ReadFault::Unread) => Err(StreamError::Unread(file)),
+        }
+    }
+
+    /// Reads the files one at a time, and tells them.
+    fn send_files<L: LogFiles, W: Out>(
+        &mut self,
+        alloc: Global,
+        out: &mut W,
+        outgoing: &mut Outgoing,
+        table: &CrcTable,
+        files: &L,
+    ) -> Result<(), StreamError>
+        ensures told { PutsFiles (λ logs. logs_told 0 self.old.source logs self.old.far) (L.gives files.now) 0 (L.many files.now) self.new.far result (sending (W.written out.old) outgoing.old) (sending (W.written out.new) outgoing.new) }
+        ensures source { self.new.source ≡ self.old.source }
+    {
+        for file in 0..files.count() {
+            if let Err(error) = self.send_file(alloc, out, outgoing, table, files, file) {
                 return Err(error);
             }
         }
         Ok(())
     }
-    /// The bytes with the message of the position that was reached, where it isn't said, behind them; `file` is the place
-    /// behind the last file.
-    pub(crate) fn with_last(
+
+    /// Tells the position that was reached, where it isn't said, and writes all that waits; `file` is the place behind the last
+    /// file.
+    pub(crate) fn send_end<W: Out>(
         &self,
         alloc: Global,
-        out: Vec<u8>,
+        out: &mut W,
+        outgoing: &mut Outgoing,
         file: usize,
-    ) -> Result<Vec<u8>, LogsError>
-        ensures { GivesUnless meant (λ all. all.items) result (of_tell file (last_with (last_told self.now.source self.now.far) out.items)) }
+    ) -> Result<(), StreamError>
+        ensures { PutsEnd (of_tell file (last_told self.now.source self.now.far)) result (sending (W.written out.old) outgoing.old) (sending (W.written out.new) outgoing.new) }
     {
-        let mut out = out;
+        match self.put_end(alloc, &mut outgoing.waits, file) {
+            Ok(()) => outgoing.send(out),
+            Err(error) => Err(nowhere(error)),
+        }
+    }
+
+    /// Appends the message of the position that was reached, where it isn't said.
+    fn put_end(&self, alloc: Global, out: &mut Vec<u8>, file: usize) -> Result<(), LogsError>
+        ensures { GivesUnless meant (λ x. out.new.items) result (of_tell file (last_with (last_told self.now.source self.now.far) out.old.items)) }
+    {
         match put_last(
             alloc,
-            &mut out,
+            out,
             self.keyspace,
             self.shard,
             &self.reached,
             self.said,
         ) {
-            Ok(()) => Ok(out),
+            Ok(()) => Ok(()),
             Err(error) => Err(of_tell(file, error)),
         }
     }
@@ -263,28 +329,61 @@ fn nothing<'t, 'w>(
     })
 }
 
-/// The messages of the feed of logs, of any length.
-fn written_of(
+/// What is told of files, of any length, and how many bytes that is.
+fn told_of<L: LogFiles, W: Out>(
     alloc: Global,
     source: FeedSource<'_, '_>,
-    logs: &[&[u8]],
-) -> Result<Vec<u8>, LogsError>
-    ensures { GivesUnless meant (λ feed. feed.items) result (bytes_told (feed_told (source_value source.entry) (map (λ log. log.now) logs.now))) }
+    files: &L,
+    out: &mut W,
+) -> Result<usize, StreamError>
+    ensures { TellsAll (λ logs. feed_told (source_value source.entry) logs) (L.gives files.now) 0 (L.many files.now) result (W.written out.old) (W.written out.new) }
 {
     let table = CrcTable::new(alloc)?;
     let mut transcript = nothing(alloc, source)?;
-    let mut out = Vec::new(alloc);
-    match transcript.put_logs(alloc, &mut out, &table, logs) {
-        Ok(()) => transcript.with_last(alloc, out, logs.len()),
+    let mut outgoing = Outgoing::new(alloc);
+    if let Err(error) = transcript.send_files(alloc, out, &mut outgoing, &table, files) {
+        return Err(error);
+    }
+    match transcript.send_end(alloc, out, &mut outgoing, files.count()) {
+        Ok(()) => Ok(outgoing.sent),
         Err(error) => Err(error),
     }
 }
 
-/// The feed of logs, one file behind another: a message for each transaction that has rows of the feed's tables, and at the end
-/// one for the position that was reached, where the last message has another. Each log is the bytes of a whole file; the first
-/// one has to begin with no position. An error is the first fault of the logs, with its file and, where it is of one, its
-/// table; behind all of them that the feed would be too long; or want of memory. Takes memory for the feed and for one
-/// transaction at a time.
+/// The feed of logs, whose files are read one at a time, as it is written on `out`: a message for each transaction that has rows
+/// of the feed's tables, and at the end one for the position that was reached, where the last message has another. Each file is
+/// a whole log; the first one has to begin with no position. An error is the first fault of the logs, with its file and, where
+/// it is of one, its table; behind all of them that the feed would be too long; the first file that can't be read; that a write
+/// failed; or want of memory. What was written before is of no use then. Takes memory for one file, one transaction, and 64 KiB
+/// of what is told.
+pub fn transcribe_to<L: LogFiles, W: Out>(
+    alloc: Global,
+    source: FeedSource<'_, '_>,
+    files: &L,
+    out: &mut W,
+) -> Result<(), StreamError>
+    // The groups of the feed are just the transactions of the logs that have rows of its tables.
+    ensures { EndsSo (λ logs. of_logs (feed_of_logs (source_value source.entry) logs)) (λ logs feed. IsSource (source_value source.entry) → IsFeedOfLogs (source_value source.entry) logs feed) (L.gives files.now) (L.many files.now) result (W.written out.old) (W.written out.new) }
+{
+    transactions_are_told();
+    transactions_reach();
+    ends_are_told();
+    courses_rise();
+    messages_are_read();
+    feeds_have_their_groups();
+    courses_are_read();
+    let size = match told_of(alloc, source, files, out) {
+        Ok(size) => size,
+        Err(error) => return Err(error),
+    };
+    if size < LIMIT {
+        return Ok(());
+    }
+    Err(StreamError::Fault(LogsFault::TooLong(files.count()), None))
+}
+
+/// The feed of logs that are in memory, as `transcribe_to` writes it: each is the bytes of a whole file. An error is its fault,
+/// or want of memory. Takes memory for the feed and for one transaction at a time.
 pub fn transcribe(
     alloc: Global,
     source: FeedSource<'_, '_>,
@@ -294,19 +393,10 @@ pub fn transcribe(
     // The groups of the feed are just the transactions of the logs that have rows of its tables.
     ensures right { IfOk result (λ feed. IsSource (source_value source.entry) → IsFeedOfLogs (source_value source.entry) (map (λ log. log.now) logs.now) feed.items) }
 {
-    transactions_are_told();
-    transactions_reach();
-    ends_are_told();
-    courses_rise();
-    messages_are_read();
-    feeds_have_their_groups();
-    courses_are_read();
-    let feed = match written_of(alloc, source, logs) {
-        Ok(feed) => feed,
-        Err(error) => return Err(error),
-    };
-    if feed.len() < LIMIT {
-        return Ok(feed);
+    let mut spool = Spool::new(alloc);
+    match transcribe_to(alloc, source, &LentLogs { logs }, &mut spool) {
+        Ok(()) => Ok(spool.into_bytes()),
+        Err(StreamError::Fault(fault, _)) => Err(LogsError::Fault(fault)),
+        Err(_) => Err(LogsError::Memory),
     }
-    Err(LogsError::Fault(LogsFault::TooLong(logs.len())))
 }

@@ -66,8 +66,8 @@ abbrev pub last_put : List ℕ → List ℕ → List Interval → Bool → List 
 last_put keyspace shard position true out = Ok out
 last_put keyspace shard position false out = event_bytes (place_told keyspace shard position) >>= λ place. Ok (out ++ framed (written_response (place ∷ [])))
 
--- messages behind other bytes, and how far they tell
-abbrev pub with_messages : {F : Type 0} → Result Messages F → List ℕ → Result (List ℕ × Far) F
+-- messages behind other bytes, and how far they go
+abbrev pub with_messages : {A F : Type 0} → Result (List (List EventValue) × A) F → List ℕ → Result (List ℕ × A) F
 with_messages (Ok x) out = Ok (out ++ written x.0, x.1)
 with_messages (Err fault) out = Err fault
 

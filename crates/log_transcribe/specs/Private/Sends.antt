@@ -1,0 +1,141 @@
+-- Messages on their way to a writer, file by file.
+use Rattle.std.specs.Prelude.{◌≡◌, ◌<◌, ℕ, ◌+◌, ◌-◌, ◌^◌, min, Bool, true, false, List, [], ◌∷◌, ◌++◌, length, Option, None, Some, Result, Ok, Err}
+use Rattle.list_laws.specs.Outcome.{◌>>=◌}
+use Rattle.printing.specs.Printing.{Written, IsWritten, BreaksOff}
+use Rattle.vevent.specs.EventValue.{EventValue}
+use Rattle.log_laws.specs.Transcript.{written as bytes_of}
+use Rattle.log_transcribe.specs.declared.fault.LogsFault.{LogsFault}
+use Rattle.log_transcribe.specs.declared.fault.LogsError.{LogsError}
+use Rattle.log_transcribe.specs.declared.fault.LogsError.TheVariants as logs_error
+use Rattle.log_transcribe.specs.declared.fault.StreamError.{StreamError}
+use Rattle.log_transcribe.specs.declared.fault.StreamError.TheVariants as stop
+use Rattle.log_transcribe.specs.declared.outgoing.Outgoing.{Outgoing}
+use Rattle.log_transcribe.specs.Files.{GaveFrom}
+use Rattle.log_transcribe.specs.Private.Bytes.{with_messages, last_with, bytes_told}
+
+-- what a writer took, what waits to be written, and how many bytes were, as far as 64 bits count
+pub record Sending : Type 0 where
+  pub written : Written
+  pub waits : List ℕ
+  pub sent : ℕ
+
+abbrev pub sending : Written → Outgoing → Sending
+sending written o = record { written = written; waits = o.waits.items; sent = o.sent }
+
+abbrev pub counted : ℕ → ℕ
+counted n = min n (2 ^ 64 - 1)
+
+-- these bytes were written, and counted
+pub record WentOut (old new : Sending) (gone : List ℕ) : Type 0 where
+  pub written : IsWritten old.written new.written gone
+  pub sent : (n : ℕ) → old.sent ≡ counted n → new.sent ≡ counted (n + length gone)
+
+-- some of what waited went out, and the rest waits
+abbrev pub Sends : Result (Unit {0}) StreamError → Sending → Sending → Type 0
+Sends (Ok x) old new = (gone : List ℕ) × WentOut old new gone × (old.waits ≡ gone ++ new.waits)
+Sends (Err stop.Unwritten) old new = (text : List ℕ) × BreaksOff old.written new.written text
+Sends (Err error) old new = ⊥
+
+-- messages, each as its events, and how far they go
+abbrev pub Going : Type 0 → Type 0
+Going A = List (List EventValue) × A
+
+-- the rest is told behind what went out and what waits now, as all was behind what waited
+abbrev pub GoesOn : {A : Type 0} → Result (Going A) LogsFault → Result (Going A) LogsFault → Sending → Sending → Type 0
+GoesOn all rest old new = (gone : List ℕ) × WentOut old new gone × (with_messages all old.waits ≡ with_messages rest (gone ++ new.waits))
+
+-- nothing more is told
+abbrev pub done : {A : Type 0} → A → Result (Going A) LogsFault
+done far = Ok ([], far)
+
+-- why it doesn't go on: the fault of what is told; or a write failed, or memory was wanting
+abbrev pub Stops : {X : Type 0} → Result X LogsFault → StreamError → Written → Written → Type 0
+Stops all stop.Memory old new = Unit {0}
+Stops all stop.Unwritten old new = (text : List ℕ) × BreaksOff old new text
+Stops all (stop.Fault fault byte) old new = all ≡ Err fault
+Stops all error old new = ⊥
+
+-- nothing, and no fault
+abbrev pub nothing : Result (Unit {0}) LogsFault
+nothing = Ok tt
+
+-- all is told
+abbrev pub Puts : {A : Type 0} → Result (Going A) LogsFault → A → Result (Unit {0}) StreamError → Sending → Sending → Type 0
+Puts all far (Ok x) old new = GoesOn all (done far) old new
+Puts all far (Err error) old new = Stops all error old.written new.written
+
+-- the next part is told, of so many that are left fewer are; or there was none
+abbrev pub PutsOne : {A : Type 0} → Result (Going A) LogsFault → Result (Going A) LogsFault → A → ℕ → ℕ → Result Bool StreamError → Sending → Sending → Type 0
+PutsOne all rest far left fewer (Ok true) old new = GoesOn all rest old new × (fewer < left)
+PutsOne all rest far left fewer (Ok false) old new = GoesOn all (done far) old new
+PutsOne all rest far left fewer (Err error) old new = Stops all error old.written new.written
+
+-- an error of the logs, with some byte
+abbrev pub IsOfLogs : LogsError → StreamError → Type 0
+IsOfLogs logs_error.Memory error = error ≡ stop.Memory
+IsOfLogs (logs_error.Fault fault) error = (byte : Option ℕ) × (error ≡ stop.Fault fault byte)
+
+-- ---- files
+
+-- what files tell, by what each does behind the ones before it
+unfoldable pub files_told : {A : Type 0} → (ℕ → List ℕ → A → Result (Going A) LogsFault) → ℕ → List (List ℕ) → A → Result (Going A) LogsFault
+files_told told file [] far = Ok ([], far)
+files_told told file (bytes ∷ logs) far = told file bytes far >>= λ x. files_told told (file + 1) logs x.1 >>= λ y. Ok (x.0 ++ y.0, y.1)
+
+-- the file at a place gave bytes, and all is told that these tell; or it can't be read
+abbrev pub PutsFile : {A : Type 0} → (ℕ → List ℕ → A → Result (Going A) LogsFault) → (ℕ → List ℕ → Type 0) → ℕ → A → A → Result (Unit {0}) StreamError → Sending → Sending → Type 0
+PutsFile told Gives file far next (Ok x) old new = (bytes : List ℕ) × Gives file bytes × GoesOn (told file bytes far) (done next) old new
+PutsFile told Gives file far next (Err (stop.Unread at)) old new = at ≡ file
+PutsFile told Gives file far next (Err (stop.Fault fault byte)) old new = (bytes : List ℕ) × Gives file bytes × (told file bytes far ≡ Err fault)
+PutsFile told Gives file far next (Err error) old new = Stops nothing error old.written new.written
+
+-- The files from one on gave bytes, and all is told that these tell.
+pub record AreTold {A : Type 0} (tells : List (List ℕ) → Result (Going A) LogsFault) (Gives : ℕ → List ℕ → Type 0) (file many : ℕ) (next : A) (old new : Sending) : Type 0 where
+  pub logs : List (List ℕ)
+  pub gave : GaveFrom Gives file logs
+  pub all : file + length logs ≡ many
+  pub goes : GoesOn (tells logs) (done next) old new
+
+-- By what the files from one on gave there is a fault, whatever the others have.
+pub record AreRefused {X : Type 0} (tells : List (List ℕ) → Result X LogsFault) (Gives : ℕ → List ℕ → Type 0) (file many : ℕ) (fault : LogsFault) : Type 0 where
+  pub logs : List (List ℕ)
+  pub gave : GaveFrom Gives file logs
+  pub is : (others : List (List ℕ)) → file + (length logs + length others) ≡ many → tells (logs ++ others) ≡ Err fault
+
+-- The files from one on gave bytes up to this one of so many.
+pub record AreUnread (Gives : ℕ → List ℕ → Type 0) (file many at : ℕ) : Type 0 where
+  pub within : at < many
+  pub logs : List (List ℕ)
+  pub gave : GaveFrom Gives file logs
+  pub before : file + length logs ≡ at
+
+abbrev pub PutsFiles : {A : Type 0} → (List (List ℕ) → Result (Going A) LogsFault) → (ℕ → List ℕ → Type 0) → ℕ → ℕ → A → Result (Unit {0}) StreamError → Sending → Sending → Type 0
+PutsFiles tells Gives file many next (Ok x) old new = AreTold tells Gives file many next old new
+PutsFiles tells Gives file many next (Err (stop.Unread at)) old new = AreUnread Gives file many at
+PutsFiles tells Gives file many next (Err (stop.Fault fault byte)) old new = AreRefused tells Gives file many fault
+PutsFiles tells Gives file many next (Err error) old new = Stops nothing error old.written new.written
+
+-- ---- the end
+
+-- the last messages are told behind what waited, and nothing waits
+abbrev pub PutsEnd : Result (List (List EventValue)) LogsFault → Result (Unit {0}) StreamError → Sending → Sending → Type 0
+PutsEnd last (Ok x) old new = (gone : List ℕ) × WentOut old new gone × (last_with last old.waits ≡ Ok gone)
+PutsEnd last (Err error) old new = Stops last error old.written new.written
+
+-- ---- the whole
+
+-- The files from one on gave bytes, and what is told of these was written, so many bytes.
+pub record AreWritten (tells : List (List ℕ) → Result (List (List EventValue)) LogsFault) (Gives : ℕ → List ℕ → Type 0) (file many size : ℕ) (old new : Written) : Type 0 where
+  pub logs : List (List ℕ)
+  pub gave : GaveFrom Gives file logs
+  pub all : file + length logs ≡ many
+  pub feed : List ℕ
+  pub is : bytes_told (tells logs) ≡ Ok feed
+  pub written : IsWritten old new feed
+  pub size : size ≡ counted (length feed)
+
+abbrev pub TellsAll : (List (List ℕ) → Result (List (List EventValue)) LogsFault) → (ℕ → List ℕ → Type 0) → ℕ → ℕ → Result ℕ StreamError → Written → Written → Type 0
+TellsAll tells Gives file many (Ok size) old new = AreWritten tells Gives file many size old new
+TellsAll tells Gives file many (Err (stop.Unread at)) old new = AreUnread Gives file many at
+TellsAll tells Gives file many (Err (stop.Fault fault byte)) old new = AreRefused tells Gives file many fault
+TellsAll tells Gives file many (Err error) old new = Stops nothing error old new
