@@ -317,12 +317,12 @@ def tests_and_documents_do_not_count(room):
     edits = os.path.join(room.plain, "crates/vrepl/must-fail")
     os.mkdir(edits)
     write(os.path.join(edits, "other.edit"), "")
-    moved = os.path.join(room.folder, "wire_tests")
-    os.rename(os.path.join(room.plain, "crates/wire_tests"), moved)
+    moved = os.path.join(room.folder, "reading_tests")
+    os.rename(os.path.join(room.plain, "crates/reading_tests"), moved)
     with longer(os.path.join(room.plain, "README.md")):
         fault = wanted(room.run(room.plain, *SHOW))
     shutil.rmtree(edits)
-    os.rename(moved, os.path.join(room.plain, "crates/wire_tests"))
+    os.rename(moved, os.path.join(room.plain, "crates/reading_tests"))
     return fault
 
 

@@ -238,7 +238,7 @@ def further_faults():
 
 # What names all vindexes, column types or events, beside the files in which the compiler asks for a case each.
 ALL_VINDEXES = """crates/vindex/src/vindexes.rt crates/workflow_check/src/passing.rt crates/tiles_said/src/shares.rt
-    crates/workflow_places/src/filter_form.rt crates/plan_tests/src/ranges.rt include/vrepl.h docs/FORMATS.md
+    crates/workflow_places/src/filter_form.rt crates/reading_tests/src/plans/ranges.rt include/vrepl.h docs/FORMATS.md
     record/recorder/filters.py tests/model/workflow.py tests/model/random_workflow.py tests/model/limits.py tests/library/same.py""".split()
 ALL_TYPES = "bindings/python/vrepl/feed.py docs/FORMATS.md record/recorder/kinds.py tests/model/workflow.py".split()
 ALL_EVENTS = "docs/FORMATS.md record/recorder/wire.py".split()

@@ -3,7 +3,7 @@
 
 usage: tests/run_protobuf.py
 
-The tests of wire_tests read the samples of crates/wire_tests/src/samples.rt and write them again, byte
+The tests of reading_tests read the samples of crates/reading_tests/src/wire/samples.rt and write them again, byte
 for byte. Here that file has to be what the library writes of the same values today, and the library
 has to read each sample as its value. Where python3-protobuf isn't installed nothing is compared, and
 the script says so and counts nothing. The last line is 'N passed, M failed': one a sample.
@@ -15,8 +15,8 @@ import subprocess
 import sys
 
 ROOT = os.path.dirname(os.path.dirname(os.path.abspath(__file__)))
-SAMPLES = os.path.join(ROOT, "crates", "wire_tests", "src", "samples.rt")
-WRITER = os.path.join(ROOT, "crates", "wire_tests", "samples", "write_samples.py")
+SAMPLES = os.path.join(ROOT, "crates", "reading_tests", "src", "wire", "samples.rt")
+WRITER = os.path.join(ROOT, "crates", "reading_tests", "samples", "write_samples.py")
 
 
 def has_library():

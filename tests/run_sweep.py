@@ -41,12 +41,9 @@ from model import making, program as model, refusal
 EACH_GROWTH = 2**32
 IN_MEMORY = {"memory::": EACH_GROWTH, "": 0}
 SWEPT = {
-    "table_tests": {},
+    "row_tests": {"dumps::": 0, "repairs::": 0},
     "board_tests": IN_MEMORY,
-    "checkpoint_tests": IN_MEMORY,
-    "worker_tests": IN_MEMORY,
-    "rounds_tests": {"without_memory": EACH_GROWTH, "": 0},
-    "program_tests": {"replies::": 3},
+    "thread_tests": {"memory::": EACH_GROWTH, "without_memory": EACH_GROWTH, "replies::": 3, "commands::": EACH_GROWTH, "": 0},
 }
 SCRIPTS_AT_RANDOM = 60
 # of a run of two streams: a reader for each, and a worker beside the first thread's

@@ -7,7 +7,7 @@ from .told import place
 from .vdiff import vdiff
 from .workflow import Workflow
 
-# Refusals of a workflow whose place the model doesn't know: tests of plan_tests hold these.
+# Refusals of a workflow whose place the model doesn't know: tests of reading_tests hold these.
 UNPLACED = ("51", "53", "54", "55", "57")
 
 

@@ -23,12 +23,12 @@ use Rattle.source_feed.specs.Touches.{PreparedValue, prepared, prepared_at}
 use Rattle.source_feed.proofs.SoundGroupLaws.{there_at_number, front_ends, first_more, first_stops}
 use Rattle.board_laws.specs.Lawful.{IsSoundState}
 use Rattle.board_laws.specs.Meaning.{State, TargetRows, Meaning}
-use Rattle.added_laws.specs.declared.fault.AddFault.{AddFault}
-use Rattle.added_laws.specs.declared.fault.AddFault.TheVariants.{FeedCount, PlanNotExtended, WrongPlan, HistoriesDiffer, Unsound, Memory}
-use Rattle.added_laws.specs.Extended.{marks_of_more, extended_state, extended_states, extended_board, MayExtend}
-use Rattle.added_laws.specs.GoingOn.{GoesOnTo, GoesOn, IsOfOtherHistory, GoOnBefore, StopsAt}
-use Rattle.added_laws.specs.Laws.{ExtendedStatesAreSound, FeedsThatGoOnArentStopped}
-use Rattle.added_laws.proofs.Boards.{becomes, as_many}
+use Rattle.board_laws.specs.declared.add_fault.AddFault.{AddFault}
+use Rattle.board_laws.specs.declared.add_fault.AddFault.TheVariants.{FeedCount, PlanNotExtended, WrongPlan, HistoriesDiffer, Unsound, Memory}
+use Rattle.board_laws.specs.Extended.{marks_of_more, extended_state, extended_states, extended_board, MayExtend}
+use Rattle.board_laws.specs.GoingOn.{GoesOnTo, GoesOn, IsOfOtherHistory, GoOnBefore, StopsAt}
+use Rattle.board_laws.specs.AddedLaws.{ExtendedStatesAreSound, FeedsThatGoOnArentStopped}
+use Rattle.board_laws.proofs.AddedBoards.{becomes, as_many}
 use Rattle.apply_core.specs.Adding.{MayWantMemory, AreTaken, IsRefusedAdd}
 use Rattle.apply_core.specs.Feeds.{AreWholeFeeds}
 use Rattle.apply_core.specs.Private.Adding.{fault_of_feed, IsNotAgain, AreAgain, IsStoppedBy, IsExtendedBy, FeedsExtend, AreExtendedUpTo, AreStopped}

@@ -12,8 +12,8 @@ use Rattle.board_laws.specs.Event.{restart}
 use Rattle.board_laws.specs.Meaning.{State, Meaning}
 use Rattle.board_laws.specs.StateAfter.{state_after}
 use Rattle.board_laws.proofs.Lookups.{Ties}
-use Rattle.added_laws.specs.Extended.{extended_state, extended_states, extended_board, MayExtend}
-use Rattle.added_laws.specs.GoingOn.{MeetsUnsound, GoOnBefore, StopsAt}
+use Rattle.board_laws.specs.Extended.{extended_state, extended_states, extended_board, MayExtend}
+use Rattle.board_laws.specs.GoingOn.{MeetsUnsound, GoOnBefore, StopsAt}
 use Rattle.checkpoint_laws.specs.declared.fault.ResumeFault.{ResumeFault}
 use Rattle.checkpoint_laws.specs.declared.fault.ResumeFault.TheVariants.{FeedCount, WrongPlan, CheckpointBad, PositionUnknown, Unsound, CheckpointDiffers, OwnedByOther, Memory}
 use Rattle.checkpoint_laws.specs.Added.{under_plans, SavedBoardsAreSaidOfMore, ExtendedBoardsAreResumed, IsOfSameHistory}

@@ -4,7 +4,7 @@ use Rattle.std.proofs.lemmas.List.{length-map}
 use Rattle.std.proofs.lemmas.Option.{same_Some, none-some, slice_get-map}
 use Rattle.std.specs.List.{AllByRecursion}
 use Rattle.std.specs.Option.{option_map}
-use Rattle.join_laws.proofs.Feeds.{in_the_way}
+use Rattle.board_laws.proofs.JoinedFeeds.{in_the_way}
 use Rattle.list_laws.proofs.Places.{slice_get-take}
 use Rattle.filter_rule.specs.PlanValue.{PlanValue}
 use Rattle.filter_rule.specs.WellFormed.{IsPlan}
@@ -18,10 +18,10 @@ use Rattle.source_feed.proofs.PositionLaws.{one_number}
 use Rattle.board_laws.specs.Cut.{cut_of}
 use Rattle.board_laws.specs.Meaning.{State, TargetRows, Meaning}
 use Rattle.board_laws.proofs.Lookups.{Ties}
-use Rattle.join_laws.specs.Compatible.{AreApart, plans_of_board}
-use Rattle.join_laws.specs.Joined.{rows_from}
-use Rattle.join_laws.specs.Refused.{IsFirstClash}
-use Rattle.join_laws.proofs.Rows.{value_from, IsRowOf, whose}
+use Rattle.board_laws.specs.Compatible.{AreApart, plans_of_board}
+use Rattle.board_laws.specs.Joined.{rows_from}
+use Rattle.board_laws.specs.RefusedJoin.{IsFirstClash}
+use Rattle.board_laws.proofs.JoinedRows.{value_from, IsRowOf, whose}
 use Rattle.checkpoint_laws.specs.declared.fault.ResumeFault.{ResumeFault}
 use Rattle.checkpoint_laws.specs.declared.fault.ResumeFault.TheVariants.{FeedCount, WrongPlan, CheckpointBad, PositionUnknown, Unsound, CheckpointDiffers, OwnedByOther, Memory}
 use Rattle.checkpoint_laws.specs.Saved.{SavedStream, saved_of}

@@ -9,7 +9,7 @@ use Rattle.source_feed.specs.Prepared.{IsSameGroup}
 use Rattle.source_feed.specs.Touches.{TouchValue, PreparedValue}
 use Rattle.board_laws.specs.Meaning.{State}
 use Rattle.board_laws.specs.Lawful.{IsSoundState}
-use Rattle.join_laws.specs.Compatible.{IsBeginning}
+use Rattle.board_laws.specs.Compatible.{IsBeginning}
 use Rattle.apply_core.specs.Private.Beside.{AreSameGroups, AreSameFirst}
 
 -- ---- groups one after another

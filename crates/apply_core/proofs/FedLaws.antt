@@ -22,10 +22,10 @@ use Rattle.board_laws.specs.Runs.{event_of_step}
 use Rattle.board_laws.specs.Schedule.{Reply, unfed, IsReplyBy, IsReply}
 use Rattle.board_laws.specs.Step.{IsRefusedOn, IsRefusedFor}
 use Rattle.board_laws.proofs.Following.{refused_by, feed_of-there}
-use Rattle.join_laws.specs.Compatible.{AreCompatible}
-use Rattle.join_laws.specs.Joined.{joined}
-use Rattle.join_laws.specs.Laws.{JoinsAreLawful}
-use Rattle.join_laws.proofs.Pairs.{one_of_two}
+use Rattle.board_laws.specs.Compatible.{AreCompatible}
+use Rattle.board_laws.specs.Joined.{joined}
+use Rattle.board_laws.specs.JoinLaws.{JoinsAreLawful}
+use Rattle.board_laws.proofs.JoinedPairs.{one_of_two}
 use Rattle.apply_core.specs.Ended.{IsFedBoard}
 use Rattle.apply_core.specs.Feeds.{IsOfOwnFeed}
 use Rattle.apply_core.proofs.CourseStepsAreAllowed.{of_offer, prepared-plan}

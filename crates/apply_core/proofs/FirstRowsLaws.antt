@@ -13,8 +13,8 @@ use Rattle.target_tables.proofs.Order.{before_middle}
 use Rattle.source_feed.specs.History.{RowValue}
 use Rattle.source_feed.specs.Image.{ImageRows}
 use Rattle.board_laws.specs.Meaning.{State, TargetRows}
-use Rattle.join_laws.specs.Compatible.{AreApart}
-use Rattle.join_laws.specs.Joined.{cut_rows, with_row, with_rows}
+use Rattle.board_laws.specs.Compatible.{AreApart}
+use Rattle.board_laws.specs.Joined.{cut_rows, with_row, with_rows}
 use Rattle.apply_core.specs.Private.Together.{AreTogether, of_first}
 
 -- ---- rows by rising key, one behind another

@@ -5,7 +5,7 @@ use Rattle.std.proofs.Math.Nat.{eq-or-lt_of_le}
 use Rattle.std.specs.Ordering.{is_lt}
 use Rattle.target_tables.specs.declared.merge_side.MergeSide.{MergeSide}
 use Rattle.board_laws.specs.Meaning.{State}
-use Rattle.join_laws.specs.Order.{state_cmp}
+use Rattle.board_laws.specs.StateOrder.{state_cmp}
 use Rattle.apply_core.specs.Private.Meeting.{IsFurther, side_by, AreSidesUpTo, AreFurtherSides}
 
 -- ---- the sides

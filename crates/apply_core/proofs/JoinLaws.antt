@@ -10,12 +10,12 @@ use Rattle.filter_rule.specs.PlanValue.{PlanValue}
 use Rattle.board_laws.specs.Meaning.{State, TargetRows, Meaning}
 use Rattle.board_laws.specs.Lawful.{IsLawful}
 use Rattle.board_laws.proofs.Lookups.{Ties}
-use Rattle.join_laws.specs.Order.{state_cmp}
-use Rattle.join_laws.specs.Chosen.{chosen, all_chosen}
-use Rattle.join_laws.specs.Joined.{rows_from, board_of, joined}
-use Rattle.join_laws.specs.Compatible.{OfEachStream, AreAlike, AreApart, AreCompatible}
-use Rattle.join_laws.proofs.States.{states_tie}
-use Rattle.join_laws.proofs.Pairs.{same_plan, chosen_plans, chosen_comm, at_chosen}
+use Rattle.board_laws.specs.StateOrder.{state_cmp}
+use Rattle.board_laws.specs.Chosen.{chosen, all_chosen}
+use Rattle.board_laws.specs.Joined.{rows_from, board_of, joined}
+use Rattle.board_laws.specs.Compatible.{OfEachStream, AreAlike, AreApart, AreCompatible}
+use Rattle.board_laws.proofs.JoinedStates.{states_tie}
+use Rattle.board_laws.proofs.JoinedPairs.{same_plan, chosen_plans, chosen_comm, at_chosen}
 use Rattle.apply_core.specs.Private.Beside.{plans_in}
 
 -- ---- places

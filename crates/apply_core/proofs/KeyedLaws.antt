@@ -18,7 +18,7 @@ use Rattle.vdiff.proofs.ReportLaws.{IsSameSoFar}
 use Rattle.board_laws.specs.Lawful.{IsSoundState}
 use Rattle.board_laws.specs.Meaning.{State}
 use Rattle.board_laws.proofs.Lookups.{Ties, all-at}
-use Rattle.join_laws.specs.Joined.{cut_rows}
+use Rattle.board_laws.specs.Joined.{cut_rows}
 use Rattle.checkpoint_laws.specs.Resumed.{IsResumedAt, AreResumed, AtEachPlace}
 use Rattle.checkpoint_laws.specs.Said.{IsKeyed}
 use Rattle.checkpoint_laws.specs.Saved.{SavedStream}

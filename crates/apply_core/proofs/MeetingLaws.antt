@@ -25,13 +25,13 @@ use Rattle.board_laws.specs.Lawful.{IsLawful}
 use Rattle.board_laws.specs.Cut.{cut_of, cut_in, own_row}
 use Rattle.board_laws.specs.Step.{due_at}
 use Rattle.board_laws.proofs.Lookups.{Ties, same_rows, all_right}
-use Rattle.join_laws.specs.Order.{state_cmp}
-use Rattle.join_laws.specs.Chosen.{all_chosen}
-use Rattle.join_laws.specs.Joined.{rows_from}
-use Rattle.join_laws.specs.Compatible.{AreApart}
-use Rattle.join_laws.specs.Refused.{IsFirstClash}
-use Rattle.join_laws.proofs.Pairs.{partner, IsChosenOf, chosen_at}
-use Rattle.join_laws.proofs.Rows.{row_of_one, rising_from, value_from, IsRowOf, whose, some_row}
+use Rattle.board_laws.specs.StateOrder.{state_cmp}
+use Rattle.board_laws.specs.Chosen.{all_chosen}
+use Rattle.board_laws.specs.Joined.{rows_from}
+use Rattle.board_laws.specs.Compatible.{AreApart}
+use Rattle.board_laws.specs.RefusedJoin.{IsFirstClash}
+use Rattle.board_laws.proofs.JoinedPairs.{partner, IsChosenOf, chosen_at}
+use Rattle.board_laws.proofs.JoinedRows.{row_of_one, rising_from, value_from, IsRowOf, whose, some_row}
 use Rattle.apply_core.specs.Private.Beside.{plans_in}
 use Rattle.apply_core.specs.Private.Meeting.{side_by, AreFurtherSides, Met, clashes, IsNoneBefore, IsNoneUpTo, NoneClash, IsFirstMet}
 use Rattle.apply_core.proofs.JoinLaws.{chosen_first, chosen_second}

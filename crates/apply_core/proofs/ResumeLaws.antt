@@ -37,8 +37,8 @@ use Rattle.board_laws.specs.Lawful.{IsSoundState}
 use Rattle.board_laws.specs.Meaning.{State, TargetRows}
 use Rattle.board_laws.specs.Step.{due_at}
 use Rattle.board_laws.proofs.Lookups.{Ties, none_above}
-use Rattle.join_laws.specs.Joined.{cut_rows, rows_from}
-use Rattle.join_laws.specs.Refused.{IsFirstClash}
+use Rattle.board_laws.specs.Joined.{cut_rows, rows_from}
+use Rattle.board_laws.specs.RefusedJoin.{IsFirstClash}
 use Rattle.checkpoint_laws.specs.declared.fault.ResumeFault.{ResumeFault}
 use Rattle.checkpoint_laws.specs.declared.fault.ResumeFault.TheVariants.{FeedCount, WrongPlan, CheckpointBad, PositionUnknown, Unsound, CheckpointDiffers, OwnedByOther, Memory}
 use Rattle.checkpoint_laws.specs.Saved.{SavedStream}

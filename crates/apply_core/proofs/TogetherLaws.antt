@@ -24,9 +24,9 @@ use Rattle.board_laws.specs.Cut.{cut_of, own_row}
 use Rattle.board_laws.specs.Step.{due_at}
 use Rattle.board_laws.proofs.Lookups.{Ties, same_rows}
 use Rattle.board_laws.proofs.OwnPart.{only}
-use Rattle.join_laws.specs.Joined.{rows_from}
-use Rattle.join_laws.specs.Compatible.{AreApart}
-use Rattle.join_laws.proofs.Rows.{row_of_one, rising_from, value_from, IsRowOf, whose, some_row}
+use Rattle.board_laws.specs.Joined.{rows_from}
+use Rattle.board_laws.specs.Compatible.{AreApart}
+use Rattle.board_laws.proofs.JoinedRows.{row_of_one, rising_from, value_from, IsRowOf, whose, some_row}
 use Rattle.apply_core.specs.Private.Together.{AreTogether, ArePutsOfCut, IsNotPut}
 
 -- ---- the rows of one stream as puts

@@ -4,11 +4,11 @@ use Rattle.filter_rule.specs.PlanValue.{PlanValue}
 use Rattle.source_feed.specs.Planned.{FeedValue}
 use Rattle.source_feed.specs.SoundGroups.{sound_groups}
 use Rattle.board_laws.specs.Meaning.{State, Meaning}
-use Rattle.added_laws.specs.declared.fault.AddFault.{AddFault}
-use Rattle.added_laws.specs.declared.fault.AddFault.TheVariants.{FeedCount, PlanNotExtended, WrongPlan, HistoriesDiffer, Unsound, Memory}
-use Rattle.added_laws.specs.Extended.{AreExtended}
-use Rattle.added_laws.specs.GoingOn.{GoesOnTo, MeetsUnsound, IsOfOtherHistory, StopsAt}
-use Rattle.join_laws.specs.Compatible.{plans_of_board}
+use Rattle.board_laws.specs.declared.add_fault.AddFault.{AddFault}
+use Rattle.board_laws.specs.declared.add_fault.AddFault.TheVariants.{FeedCount, PlanNotExtended, WrongPlan, HistoriesDiffer, Unsound, Memory}
+use Rattle.board_laws.specs.Extended.{AreExtended}
+use Rattle.board_laws.specs.GoingOn.{GoesOnTo, MeetsUnsound, IsOfOtherHistory, StopsAt}
+use Rattle.board_laws.specs.Compatible.{plans_of_board}
 use Rattle.apply_core.specs.Feeds.{AreFed}
 
 -- the plans are those of the board with tables appended, all over the same tables, and the feeds were opened under them

@@ -4,9 +4,9 @@ use Rattle.filter_rule.specs.PlanValue.{PlanValue}
 use Rattle.source_feed.specs.Planned.{FeedValue}
 use Rattle.board_laws.specs.Lawful.{IsLawful}
 use Rattle.board_laws.specs.Meaning.{Meaning}
-use Rattle.added_laws.specs.Extended.{extended_board, MayExtend}
-use Rattle.added_laws.specs.GoingOn.{MeetsUnsound, StopsAt}
-use Rattle.join_laws.specs.Compatible.{plans_of_board}
+use Rattle.board_laws.specs.Extended.{extended_board, MayExtend}
+use Rattle.board_laws.specs.GoingOn.{MeetsUnsound, StopsAt}
+use Rattle.board_laws.specs.Compatible.{plans_of_board}
 use Rattle.checkpoint_laws.specs.declared.fault.ResumeFault.{ResumeFault}
 use Rattle.checkpoint_laws.specs.declared.fault.ResumeFault.TheVariants.{FeedCount, WrongPlan, CheckpointBad, PositionUnknown, Unsound, CheckpointDiffers, OwnedByOther, Memory}
 use Rattle.checkpoint_laws.specs.declared.version.Version.{Version}

@@ -3,12 +3,12 @@
 ghost use Rattle.std.specs.Prelude.{◌≡◌, ◌↔◌, ◌≤◌, ◌++◌, ◌∷◌, [], length, map, IsTrue, IfOk, IfErr, OnOk};
 ghost use Rattle.std.specs.Arc.{arc_value};
 ghost use Rattle.filter_rule.specs.Extending.{IsExtended};
-ghost use Rattle.added_laws.specs.declared.fault.AddFault.TheVariants.{Memory};
-ghost use Rattle.added_laws.specs.Extended.{marks_of_more};
+ghost use Rattle.board_laws.specs.declared.add_fault.AddFault.TheVariants.{Memory};
+ghost use Rattle.board_laws.specs.Extended.{marks_of_more};
 ghost use Rattle.apply_core.specs.Private.Adding.{fault_of_feed, IsGroupAgain, IsNotAgain, AreAgain, IsStoppedBy, IsExtendedBy, FeedsExtend, AreExtendedUpTo, AreStopped};
 
 use crate::stream::{Stream, cursor_behind};
-use added_laws::{AddFault, extended_streams_are_sound};
+use board_laws::{AddFault, extended_streams_are_sound};
 use pk_copy::{CopyState, Mark};
 use source_feed::{Feed, FeedFault, Image, Prepared};
 use std::alloc::{AllocError, Global};

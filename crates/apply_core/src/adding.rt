@@ -5,10 +5,10 @@ ghost use Rattle.std.specs.Arc.{arc_value};
 ghost use Rattle.filter_rule.specs.Extending.{IsExtended};
 ghost use Rattle.board_laws.specs.Lawful.{IsLawful};
 ghost use Rattle.board_laws.specs.Reading.{AllReadTheirFeeds};
-ghost use Rattle.added_laws.specs.Extended.{AreExtended, extended_board, MayExtend};
-ghost use Rattle.added_laws.specs.Laws.{AddedTablesAreBare, AddedTablesAreToCopy, CutsStay};
-ghost use Rattle.added_laws.specs.declared.fault.AddFault.TheVariants.{Memory};
-ghost use Rattle.join_laws.specs.Compatible.{plans_of_board};
+ghost use Rattle.board_laws.specs.Extended.{AreExtended, extended_board, MayExtend};
+ghost use Rattle.board_laws.specs.AddedLaws.{AddedTablesAreBare, AddedTablesAreToCopy, CutsStay};
+ghost use Rattle.board_laws.specs.declared.add_fault.AddFault.TheVariants.{Memory};
+ghost use Rattle.board_laws.specs.Compatible.{plans_of_board};
 ghost use Rattle.apply_core.specs.Ended.{IsFedBoard};
 ghost use Rattle.apply_core.specs.Adding.{AreTaken, IsRefusedAdd};
 ghost use Rattle.apply_core.specs.Feeds.{AreWholeFeeds};
@@ -20,7 +20,7 @@ use crate::board::Board;
 use crate::fresh::have_same_tables;
 use crate::schedule::are_opened_under;
 use crate::stream::Stream;
-use added_laws::{
+use board_laws::{
     AddFault, added_tables_are_to_copy, extended_boards_are_lawful, feeds_go_on_or_stop,
 };
 use filter_rule::Plan;

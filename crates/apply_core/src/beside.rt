@@ -3,9 +3,9 @@
 ghost use Rattle.std.specs.Prelude.{◌≡◌, ◌↔◌, ◌≤◌, length, map, IsTrue, MatchOption};
 ghost use Rattle.std.specs.Ordering.{is_lt};
 ghost use Rattle.std.specs.Arc.{arc_value};
-ghost use Rattle.join_laws.specs.Order.{state_cmp};
-ghost use Rattle.join_laws.specs.Compatible.{OfEachStream, AreOfOneHistory};
-ghost use Rattle.join_laws.specs.Refused.{IsFirstNot};
+ghost use Rattle.board_laws.specs.StateOrder.{state_cmp};
+ghost use Rattle.board_laws.specs.Compatible.{OfEachStream, AreOfOneHistory};
+ghost use Rattle.board_laws.specs.RefusedJoin.{IsFirstNot};
 ghost use Rattle.apply_core.specs.Private.Beside.{AreSameGroups, Premise, Passes};
 
 use crate::stream::Stream;

@@ -1,15 +1,15 @@
 //! The rows of two boards that are joined: from which of the two each stream's come, and the first that clash.
 
 ghost use Rattle.std.specs.Prelude.{◌≡◌, ◌<◌, ◌∷◌, ◌++◌, [], List, length, IfOk, IfErr, MatchOption};
-ghost use Rattle.join_laws.specs.Chosen.{all_chosen};
-ghost use Rattle.join_laws.specs.Compatible.{AreApart};
+ghost use Rattle.board_laws.specs.Chosen.{all_chosen};
+ghost use Rattle.board_laws.specs.Compatible.{AreApart};
 ghost use Rattle.apply_core.specs.Private.Beside.{plans_in};
 ghost use Rattle.apply_core.specs.Private.Meeting as meetings;
 ghost use Rattle.apply_core.specs.Private.Meeting.{IsFurther, AreFurtherSides, Met, AreOrdered, NoneClash, IsFirstMet};
 ghost use Rattle.apply_core.specs.Private.Together.{AreNotTogether};
 
 use crate::board::Board;
-use join_laws::JoinFault;
+use board_laws::JoinFault;
 use pk_copy::{Key, keys_tie_where_they_are_equal};
 use row_view::RowBuf;
 use std::alloc::{AllocError, Global};

@@ -1,15 +1,15 @@
 //! Two boards joined to one.
 
 ghost use Rattle.std.specs.Prelude.{◌≡◌, ◌↔◌, List, length, IfOk, IfErr, OnOk, IsTrue, MatchOption};
-ghost use Rattle.join_laws.specs.Chosen.{chosen, all_chosen};
-ghost use Rattle.join_laws.specs.Compatible.{plans_of_board, OfEachStream, AreAlike, AreCompatible};
-ghost use Rattle.join_laws.specs.Joined.{joined};
-ghost use Rattle.join_laws.specs.Laws.{JoinsCommute, JoinsWithItself, JoinsAssociate, RunningJoinsByWhatIsRead, DisjointFeedsCanBeJoined};
-ghost use Rattle.join_laws.specs.Refused.{IsFirstNot, IsRefusedJoin};
+ghost use Rattle.board_laws.specs.Chosen.{chosen, all_chosen};
+ghost use Rattle.board_laws.specs.Compatible.{plans_of_board, OfEachStream, AreAlike, AreCompatible};
+ghost use Rattle.board_laws.specs.Joined.{joined};
+ghost use Rattle.board_laws.specs.JoinLaws.{JoinsCommute, JoinsWithItself, JoinsAssociate, RunningJoinsByWhatIsRead, DisjointFeedsCanBeJoined};
+ghost use Rattle.board_laws.specs.RefusedJoin.{IsFirstNot, IsRefusedJoin};
 ghost use Rattle.apply_core.specs.Private.Beside.{plans_in, Premise, Passes};
 ghost use Rattle.apply_core.specs.Private.Meeting.{AreFurtherSides};
 ghost use Rattle.apply_core.specs.Private.Together.{IsJoinSource};
-ghost use Rattle.join_laws.specs.declared.fault.JoinFault.TheVariants.{Memory};
+ghost use Rattle.board_laws.specs.declared.join_fault.JoinFault.TheVariants.{Memory};
 ghost use Rattle.source_feed.specs.Planned.{FeedValue};
 ghost use Rattle.apply_core.specs.Ended.{IsFedBoard};
 
@@ -17,7 +17,7 @@ use crate::beside::{Test, first_not};
 use crate::board::Board;
 use crate::join_rows::choose_sides;
 use crate::stream::Stream;
-use join_laws::{
+use board_laws::{
     JoinFault, boards_can_be_joined, joined_boards_are_lawful, joins_are_a_greatest_board,
 };
 use pk_copy::keys_tie_where_they_are_equal;

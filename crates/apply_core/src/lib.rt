@@ -38,16 +38,14 @@ mod stream;
 mod taking;
 mod together;
 
-pub use added_laws::AddFault;
 pub use adding::{AddRefusal, add_tables};
 pub use alone::{board_to_run, run_alone};
 pub use board::Board;
-pub use board_laws::{Answer, Copied, Offered, Refusal, StepRefusal};
+pub use board_laws::{AddFault, Answer, Copied, JoinFault, Offered, Refusal, StepRefusal};
 pub use checkpoint_laws::ResumeFault;
 pub use course::Course;
 pub use fed::FedBoard;
 pub use grow_refusal::GrowRefusal;
-pub use join_laws::JoinFault;
 pub use joining::{JoinRefusal, join};
 pub use policy::Policy;
 pub use puts::Puts;

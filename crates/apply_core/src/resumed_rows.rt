@@ -10,7 +10,7 @@ ghost use Rattle.source_feed.specs.History.{kept_of};
 ghost use Rattle.source_feed.specs.Image.{lent_row};
 ghost use Rattle.board_laws.specs.Meaning.{State};
 ghost use Rattle.vdiff.specs.Report.{IsFirstDifference};
-ghost use Rattle.join_laws.specs.Joined.{cut_rows};
+ghost use Rattle.board_laws.specs.Joined.{cut_rows};
 ghost use Rattle.checkpoint_laws.specs.Resumed.{AgreesWith, AtEachPlace};
 ghost use Rattle.checkpoint_laws.specs.Refused.{IsLeastDifference};
 ghost use Rattle.checkpoint_laws.specs.Said.{IsKeyed};

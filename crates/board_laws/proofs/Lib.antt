@@ -21,3 +21,12 @@ pub mod FeedGroups
 pub mod Sources
 pub mod Agreeing
 pub mod FedBoards
+pub mod OldTables
+pub mod AddedStates
+pub mod AddedBoards
+pub mod Choosing
+pub mod JoinedStates
+pub mod JoinedPairs
+pub mod JoinedRows
+pub mod JoinedBoards
+pub mod JoinedFeeds

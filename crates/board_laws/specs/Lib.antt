@@ -18,3 +18,14 @@ pub mod FedBoards
 pub mod Sources
 pub mod RunLaws
 pub mod Agreement
+pub mod GoingOn
+pub mod Extended
+pub mod AddFaults
+pub mod AddedLaws
+pub mod StateOrder
+pub mod Chosen
+pub mod Joined
+pub mod Compatible
+pub mod JoinFaults
+pub mod RefusedJoin
+pub mod JoinLaws

@@ -1,1 +1,2 @@
 pub mod JsonLaws
+mod FieldLaws

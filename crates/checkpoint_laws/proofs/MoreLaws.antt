@@ -20,10 +20,10 @@ use Rattle.board_laws.specs.Allowed.{last_position}
 use Rattle.board_laws.proofs.FeedGroups.{last_of}
 use Rattle.board_laws.proofs.Lists.{take-take}
 use Rattle.board_laws.proofs.Lookups.{Ties}
-use Rattle.added_laws.specs.Extended.{marks_of_more, extended_state, extended_states, extended_board, MayExtend}
-use Rattle.added_laws.specs.GoingOn.{GoesOn}
-use Rattle.added_laws.proofs.Boards.{IsOf, was, as_many, extended-lawful}
-use Rattle.added_laws.proofs.States.{positions-stay}
+use Rattle.board_laws.specs.Extended.{marks_of_more, extended_state, extended_states, extended_board, MayExtend}
+use Rattle.board_laws.specs.GoingOn.{GoesOn}
+use Rattle.board_laws.proofs.AddedBoards.{IsOf, was, as_many, extended-lawful}
+use Rattle.board_laws.proofs.AddedStates.{positions-stay}
 use Rattle.checkpoint_laws.specs.Added.{under_plan, under_plans, ExtendedBoardsAreResumed, IsOfSameHistory, AreOfSameHistories}
 use Rattle.checkpoint_laws.specs.Laws.{AreFeeds, restarted, BeginsWithApplied, BeginWithApplied}
 use Rattle.checkpoint_laws.specs.Refused.{plans_of_feeds}

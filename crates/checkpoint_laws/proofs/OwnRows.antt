@@ -17,7 +17,7 @@ use Rattle.board_laws.specs.Lawful.{IsLawful}
 use Rattle.board_laws.proofs.KeptRowList.{list-rising, list-kept}
 use Rattle.board_laws.proofs.Lookups.{Ties, is_key, lookup-filter, rising-filter, same_rows}
 use Rattle.board_laws.proofs.OwnPart.{own_part, only, rising_part, value_in_part}
-use Rattle.join_laws.specs.Joined.{cut_rows}
+use Rattle.board_laws.specs.Joined.{cut_rows}
 use Rattle.checkpoint_laws.specs.Saved.{without_owner, own_rows}
 
 -- ---- rows without their owners

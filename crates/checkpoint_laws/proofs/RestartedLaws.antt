@@ -27,9 +27,9 @@ use Rattle.board_laws.proofs.History.{passed_at-take}
 use Rattle.board_laws.proofs.Lists.{take-take}
 use Rattle.board_laws.proofs.Lookups.{Ties}
 use Rattle.board_laws.proofs.Sources.{known_at}
-use Rattle.join_laws.specs.Compatible.{AreApart}
-use Rattle.join_laws.specs.Joined.{cut_rows, with_rows, rows_from, board_of}
-use Rattle.join_laws.proofs.Boards.{of_its_states}
+use Rattle.board_laws.specs.Compatible.{AreApart}
+use Rattle.board_laws.specs.Joined.{cut_rows, with_rows, rows_from, board_of}
+use Rattle.board_laws.proofs.JoinedBoards.{of_its_states}
 use Rattle.checkpoint_laws.specs.Saved.{SavedStream, saved_stream, saved_from, saved_of}
 use Rattle.checkpoint_laws.specs.Resumed.{resumed_state, IsResumedAt, AreResumed, IsResumedBoard}
 use Rattle.checkpoint_laws.specs.Laws.{AreFeeds, restarted, BeginsWithApplied, BeginWithApplied, RestartedBoardsAreResumed}

@@ -16,7 +16,7 @@ use Rattle.board_laws.specs.Meaning.{State, Meaning}
 use Rattle.board_laws.proofs.History.{read-cut}
 use Rattle.board_laws.proofs.Lists.{take-take}
 use Rattle.board_laws.proofs.Lookups.{Ties}
-use Rattle.join_laws.proofs.Rows.{states-lawful}
+use Rattle.board_laws.proofs.JoinedRows.{states-lawful}
 use Rattle.board_laws.specs.Sources.{applied_position}
 use Rattle.checkpoint_laws.specs.Saved.{SavedStream, own_rows, saved_stream, saved_from, saved_of}
 use Rattle.checkpoint_laws.specs.Said.{IsSaved, IsCheckpoint}

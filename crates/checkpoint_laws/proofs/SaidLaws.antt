@@ -35,9 +35,9 @@ use Rattle.board_laws.specs.Meaning.{State, Meaning}
 use Rattle.board_laws.proofs.History.{read-cut}
 use Rattle.board_laws.proofs.Lookups.{Ties, all-at, all-filter}
 use Rattle.board_laws.proofs.RowsUnder.{IsRowUnder, passed-under}
-use Rattle.added_laws.specs.Extended.{marks_of_more}
-use Rattle.join_laws.specs.Compatible.{plans_of_board}
-use Rattle.join_laws.specs.Joined.{cut_rows}
+use Rattle.board_laws.specs.Extended.{marks_of_more}
+use Rattle.board_laws.specs.Compatible.{plans_of_board}
+use Rattle.board_laws.specs.Joined.{cut_rows}
 use Rattle.board_laws.specs.Sources.{applied_position}
 use Rattle.checkpoint_laws.specs.declared.version.Version.{Version}
 use Rattle.checkpoint_laws.specs.declared.version.Version.TheVariants.{One, Two}

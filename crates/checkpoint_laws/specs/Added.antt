@@ -8,8 +8,8 @@ use Rattle.source_feed.specs.SoundGroups.{sound_groups}
 use Rattle.source_feed.specs.Touches.{PreparedValue}
 use Rattle.board_laws.specs.Lawful.{IsLawful}
 use Rattle.board_laws.specs.Meaning.{State, Meaning}
-use Rattle.added_laws.specs.Extended.{marks_of_more, AreExtended, extended_board, MayExtend}
-use Rattle.join_laws.specs.Compatible.{plans_of_board}
+use Rattle.board_laws.specs.Extended.{marks_of_more, AreExtended, extended_board, MayExtend}
+use Rattle.board_laws.specs.Compatible.{plans_of_board}
 use Rattle.checkpoint_laws.specs.Laws.{AreWithin, AreFeeds}
 use Rattle.checkpoint_laws.specs.Refused.{plans_of_feeds}
 use Rattle.checkpoint_laws.specs.Resumed.{IsResumedBoard}

@@ -14,7 +14,7 @@ use Rattle.board_laws.specs.Meaning.{State, Meaning}
 use Rattle.board_laws.specs.Lawful.{IsLawful}
 use Rattle.board_laws.specs.Event.{restart}
 use Rattle.board_laws.specs.StateAfter.{state_after}
-use Rattle.join_laws.specs.Compatible.{plans_of_board}
+use Rattle.board_laws.specs.Compatible.{plans_of_board}
 use Rattle.checkpoint_laws.specs.declared.version.Version.{Version}
 use Rattle.checkpoint_laws.specs.Saved.{SavedStream, saved_of}
 use Rattle.checkpoint_laws.specs.Written.{position_text, written_checkpoint, checkpoint_in}

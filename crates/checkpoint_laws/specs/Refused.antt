@@ -11,7 +11,7 @@ use Rattle.source_feed.specs.Positions.{IsNumberAt}
 use Rattle.source_feed.specs.SoundGroups.{sound_groups, IsFirstFault}
 use Rattle.board_laws.specs.Cut.{cut_of}
 use Rattle.board_laws.specs.Meaning.{State}
-use Rattle.join_laws.specs.Refused.{IsFirstClash}
+use Rattle.board_laws.specs.RefusedJoin.{IsFirstClash}
 use Rattle.checkpoint_laws.specs.declared.fault.ResumeFault.{ResumeFault}
 use Rattle.checkpoint_laws.specs.declared.fault.ResumeFault.TheVariants.{FeedCount, WrongPlan, CheckpointBad, PositionUnknown, Unsound, CheckpointDiffers, OwnedByOther, Memory}
 use Rattle.checkpoint_laws.specs.Saved.{SavedStream}

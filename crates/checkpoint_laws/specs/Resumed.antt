@@ -5,8 +5,8 @@ use Rattle.source_feed.specs.Planned.{FeedValue}
 use Rattle.source_feed.specs.Positions.{IsNumberAt}
 use Rattle.source_feed.specs.SoundGroups.{sound_groups}
 use Rattle.board_laws.specs.Meaning.{State, Meaning}
-use Rattle.join_laws.specs.Compatible.{AreApart}
-use Rattle.join_laws.specs.Joined.{cut_rows, board_of}
+use Rattle.board_laws.specs.Compatible.{AreApart}
+use Rattle.board_laws.specs.Joined.{cut_rows, board_of}
 use Rattle.checkpoint_laws.specs.Saved.{SavedStream}
 
 -- the position is the empty set or that of a group of the feed

@@ -14,7 +14,7 @@ use Rattle.source_feed.specs.Image.{ImageRows}
 use Rattle.vevent.specs.CheckpointPart.{TablePartValue, StreamPartValue}
 use Rattle.vevent.specs.WrittenPart.{written_stream_part}
 use Rattle.board_laws.specs.Meaning.{Meaning}
-use Rattle.join_laws.specs.Compatible.{plans_of_board}
+use Rattle.board_laws.specs.Compatible.{plans_of_board}
 use Rattle.checkpoint_laws.specs.declared.version.Version.{Version}
 use Rattle.checkpoint_laws.specs.declared.version.Version.TheVariants.{One, Two}
 use Rattle.checkpoint_laws.specs.Saved.{SavedStream, saved_of}

@@ -7,8 +7,8 @@ use Rattle.filter_rule.specs.Extending.{IsExtended}
 use Rattle.filter_rule.specs.PlanValue.{PlanValue}
 use Rattle.source_feed.specs.Planned.{FeedValue}
 use Rattle.board_laws.specs.Meaning.{State, Meaning}
-use Rattle.added_laws.specs.Extended.{AreExtended, extended_board, MayExtend}
-use Rattle.join_laws.specs.Compatible.{plans_of_board}
+use Rattle.board_laws.specs.Extended.{AreExtended, extended_board, MayExtend}
+use Rattle.board_laws.specs.Compatible.{plans_of_board}
 use Rattle.checkpoint_laws.specs.Added.{SavedBoardsAreSaidOfMore, ExtendedBoardsAreResumed}
 use Rattle.checkpoint_laws.specs.Refused.{plans_of_feeds}
 use Rattle.checkpoint_laws.specs.Resumed.{IsResumedBoard}

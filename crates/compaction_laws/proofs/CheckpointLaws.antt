@@ -19,8 +19,8 @@ use Rattle.board_laws.proofs.Fresh.{passed-alike}
 use Rattle.board_laws.proofs.KeptList.{list-is_passed, passed-is_list}
 use Rattle.board_laws.proofs.Lists.{take-take}
 use Rattle.board_laws.proofs.Lookups.{Ties}
-use Rattle.join_laws.specs.Compatible.{AreApart}
-use Rattle.join_laws.specs.Joined.{cut_rows, with_rows, rows_from, board_of}
+use Rattle.board_laws.specs.Compatible.{AreApart}
+use Rattle.board_laws.specs.Joined.{cut_rows, with_rows, rows_from, board_of}
 use Rattle.checkpoint_laws.specs.Resumed.{resumed_state, IsResumedAt, IsResumedBoard}
 use Rattle.checkpoint_laws.specs.Saved.{SavedStream}
 use Rattle.checkpoint_laws.proofs.ResumedLaws.{at_same_place}

@@ -17,8 +17,8 @@ use Rattle.source_feed.specs.Touches.{PreparedValue, prepared}
 use Rattle.board_laws.specs.Cut.{cut_of}
 use Rattle.board_laws.specs.Lawful.{IsLawful}
 use Rattle.board_laws.specs.Meaning.{State, Meaning}
-use Rattle.added_laws.specs.Extended.{extended_board, MayExtend}
-use Rattle.join_laws.specs.Joined.{cut_rows}
+use Rattle.board_laws.specs.Extended.{extended_board, MayExtend}
+use Rattle.board_laws.specs.Joined.{cut_rows}
 use Rattle.checkpoint_laws.specs.Added.{under_plans}
 use Rattle.checkpoint_laws.specs.Laws.{AreFeeds, AreWithin}
 use Rattle.checkpoint_laws.specs.Refused.{plans_of_feeds}

@@ -185,11 +185,11 @@ pub const LOG_ORDER: &str = "\
 
 Rows or an end stand outside of a transaction, or a beginning inside of one; a
 transaction has no end; a savepoint isn't there; rows have no table; or an XA
-transaction is prepared and not ended in the same log.
-Usual causes: an XA transaction over a rotation of the log; a log that was cut
-and put together.
+transaction is prepared and its end isn't found, or ends and isn't prepared.
+Usual causes: an XA transaction that waits for its end; a log that is missing,
+or that was cut and put together.
 What to do: end XA transactions, then FLUSH BINARY LOGS, and begin with a log
-behind that.
+behind that, with --after behind a feed.
 ";
 
 pub const LOG_UNNAMED: &str = "\
@@ -204,8 +204,9 @@ pub const LOG_BACK: &str = "\
 158  a position of a binary log goes back
 
 A transaction's position is one that the logs had before it, or is no number of
-a transaction.
-Usual causes: RESET MASTER; two servers that wrote the same domain.
+a transaction; or, with --after, the feed has a part of what it adds.
+Usual causes: RESET MASTER; two servers that wrote the same domain; a feed of
+another server.
 What to do: set gtid_strict_mode, and begin anew with a snapshot (record/feed
 --from-snapshot).
 ";
@@ -214,10 +215,11 @@ pub const LOG_BEGINS: &str = "\
 159  a binary log doesn't begin where it should
 
 A log doesn't begin with the position that the one before it reached, the first
-one with none; or a table of the workflow has rows, and no log says how it was
-made. For a table the line has its name.
+one with none, or with --after within the feed's last one; or a table of the
+workflow has rows, and neither a log nor the feed says how it was made. For a
+table the line has its name.
 Usual causes: a file that is missing, purged or given in another order; a table
-that is older than the first log.
-What to do: give all logs from the server's first one on, or begin with a
-snapshot (record/feed --from-snapshot).
+that is older than the first log; a feed of another server.
+What to do: give all logs from the server's first one on, with --after from the
+feed's end on, or begin with a snapshot (record/feed --from-snapshot).
 ";

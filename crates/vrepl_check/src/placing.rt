@@ -1,7 +1,7 @@
 //! Where the fault stands for which `check` refuses a workflow with its feeds.
 
 use crate::inputs::CheckInputs;
-use feed_places::place_of;
+use check_said::place_of;
 use filter_rule::Plan;
 use printing::{Out, put_all};
 use shown_text::shown;

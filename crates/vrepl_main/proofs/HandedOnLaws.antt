@@ -13,7 +13,7 @@ use Rattle.board_laws.specs.FedBoards.{IsFedBoard}
 use Rattle.board_laws.specs.Meaning.{Meaning, State}
 use Rattle.board_laws.specs.Reading.{HasFeed}
 use Rattle.board_laws.specs.Sources.{ShowAll}
-use Rattle.join_laws.specs.Compatible.{plans_of_board}
+use Rattle.board_laws.specs.Compatible.{plans_of_board}
 use Rattle.checkpoint_laws.specs.Written.{checkpoint_of}
 use Rattle.checkpoint_laws.proofs.RestartedLaws.{same_at_places}
 use Rattle.checkpoint_laws.proofs.ResumedLaws.{at_same_place}

@@ -3,8 +3,8 @@ use Rattle.std.proofs.Common.{◌≡◌, ◌∙◌, refl, sym, ap, subst, ℕ, �
 use Rattle.std.proofs.lemmas.List.{get_or_default, take_all, take_more}
 use Rattle.std.proofs.lemmas.Option.{same_Some, slice_get_read, slice_get_within}
 use Rattle.filter_rule.specs.PlanValue.{PlanValue}
-use Rattle.join_laws.specs.Refused.{IsRefusedJoin}
-use Rattle.join_laws.specs.declared.fault.JoinFault.{JoinFault}
+use Rattle.board_laws.specs.RefusedJoin.{IsRefusedJoin}
+use Rattle.board_laws.specs.declared.join_fault.JoinFault.{JoinFault}
 use Rattle.checkpoint_laws.specs.declared.fault.ResumeFault.{ResumeFault}
 use Rattle.vrepl_main.specs.ResumedRun.{IsRefusedOver}
 use Rattle.std.specs.Prelude.{slice_get}
@@ -12,8 +12,8 @@ use Rattle.source_feed.specs.Planned.{FeedValue}
 use Rattle.board_laws.specs.FedBoards.{IsFedBoard}
 use Rattle.board_laws.specs.Meaning.{Meaning}
 use Rattle.board_laws.specs.Sources.{ShowAll}
-use Rattle.join_laws.specs.Compatible.{AreCompatible}
-use Rattle.join_laws.specs.Joined.{joined}
+use Rattle.board_laws.specs.Compatible.{AreCompatible}
+use Rattle.board_laws.specs.Joined.{joined}
 use Rattle.apply_core.specs.Resuming.{IsResumed}
 use Rattle.printing.specs.Printing.{Written, BreaksOff}
 use Rattle.vrepl_main.specs.declared.joining.Unjoined.{Unjoined}

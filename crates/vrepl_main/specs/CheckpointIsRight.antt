@@ -8,7 +8,7 @@ use Rattle.dump.specs.Dump.{dump_of}
 use Rattle.printing.specs.Printing.{Written, IsWritten}
 use Rattle.board_laws.specs.Meaning.{Meaning}
 use Rattle.board_laws.specs.Sources.{ShowAll}
-use Rattle.join_laws.specs.Compatible.{plans_of_board}
+use Rattle.board_laws.specs.Compatible.{plans_of_board}
 use Rattle.checkpoint_laws.specs.Written.{checkpoint_of}
 use Rattle.apply_core.specs.Ended.{AllHaveEnded, AreAsBefore, HaveEnded}
 use Rattle.apply_core.specs.Shown.{all_rows}

@@ -6,10 +6,10 @@ use Rattle.source_feed.specs.Planned.{FeedValue}
 use Rattle.board_laws.specs.FedBoards.{IsFedBoard}
 use Rattle.board_laws.specs.Meaning.{Meaning}
 use Rattle.board_laws.specs.Sources.{ShowAll}
-use Rattle.join_laws.specs.Compatible.{AreCompatible}
-use Rattle.join_laws.specs.Joined.{joined}
-use Rattle.join_laws.specs.Refused.{IsRefusedJoin}
-use Rattle.join_laws.specs.declared.fault.JoinFault.{JoinFault}
+use Rattle.board_laws.specs.Compatible.{AreCompatible}
+use Rattle.board_laws.specs.Joined.{joined}
+use Rattle.board_laws.specs.RefusedJoin.{IsRefusedJoin}
+use Rattle.board_laws.specs.declared.join_fault.JoinFault.{JoinFault}
 use Rattle.checkpoint_laws.specs.Written.{checkpoint_of}
 use Rattle.checkpoint_laws.specs.declared.fault.ResumeFault.{ResumeFault}
 use Rattle.apply_core.specs.Resuming.{IsResumed}

@@ -1,9 +1,9 @@
 -- The lines of boards that aren't joined (this profile).
 use Rattle.std.specs.Prelude.{ℕ, List, [], ◌++◌, codes, decimal}
 use Rattle.filter_rule.specs.PlanTable.{TableValue}
-use Rattle.join_laws.specs.Faults.{number_of}
-use Rattle.join_laws.specs.declared.fault.JoinFault.{JoinFault}
-use Rattle.join_laws.specs.declared.fault.JoinFault.TheVariants.{HistoriesDiffer, OwnedByOther}
+use Rattle.board_laws.specs.JoinFaults.{number_of}
+use Rattle.board_laws.specs.declared.join_fault.JoinFault.{JoinFault}
+use Rattle.board_laws.specs.declared.join_fault.JoinFault.TheVariants.{HistoriesDiffer, OwnedByOther}
 use Rattle.vrepl_main.specs.RefusalLine.{line_of}
 use Rattle.vrepl_main.specs.RefusedText.{clash_text}
 

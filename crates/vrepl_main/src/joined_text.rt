@@ -8,7 +8,7 @@ use filter_rule::Table;
 use printing::{Gathered, Out, OutFailed};
 
 impl Telling for JoinFault {
-    ghost use Rattle.join_laws.specs.Faults.{number_of};
+    ghost use Rattle.board_laws.specs.JoinFaults.{number_of};
     ghost use Rattle.vrepl_main.specs.JoinedText.{join_details};
 
     ghost told_number = { number_of };

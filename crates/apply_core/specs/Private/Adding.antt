@@ -8,10 +8,10 @@ use Rattle.source_feed.specs.Prepared.{IsSameOn}
 use Rattle.source_feed.specs.SoundGroups.{sound_groups}
 use Rattle.source_feed.specs.Touches.{PreparedValue, prepared_at}
 use Rattle.board_laws.specs.Meaning.{State}
-use Rattle.added_laws.specs.declared.fault.AddFault.{AddFault}
-use Rattle.added_laws.specs.declared.fault.AddFault.TheVariants.{HistoriesDiffer, Unsound, Memory}
-use Rattle.added_laws.specs.Extended.{extended_state, extended_states}
-use Rattle.added_laws.specs.GoingOn.{GoesOnTo, GoesOn, MeetsUnsound, IsOfOtherHistory, GoOnBefore, StopsAt}
+use Rattle.board_laws.specs.declared.add_fault.AddFault.{AddFault}
+use Rattle.board_laws.specs.declared.add_fault.AddFault.TheVariants.{HistoriesDiffer, Unsound, Memory}
+use Rattle.board_laws.specs.Extended.{extended_state, extended_states}
+use Rattle.board_laws.specs.GoingOn.{GoesOnTo, GoesOn, MeetsUnsound, IsOfOtherHistory, GoOnBefore, StopsAt}
 use Rattle.apply_core.specs.Adding.{MayWantMemory}
 
 -- ---- one group

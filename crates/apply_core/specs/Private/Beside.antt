@@ -5,8 +5,8 @@ use Rattle.filter_rule.specs.PlanValue.{PlanValue}
 use Rattle.source_feed.specs.Prepared.{IsSameGroup}
 use Rattle.source_feed.specs.Touches.{PreparedValue}
 use Rattle.board_laws.specs.Meaning.{State}
-use Rattle.join_laws.specs.Order.{state_cmp}
-use Rattle.join_laws.specs.Compatible.{AreOfOneHistory}
+use Rattle.board_laws.specs.StateOrder.{state_cmp}
+use Rattle.board_laws.specs.Compatible.{AreOfOneHistory}
 use Rattle.apply_core.specs.declared.beside.Test.{Test}
 use Rattle.apply_core.specs.declared.beside.Test.TheVariants.{OnePlan, OneHistory, NoFurther}
 

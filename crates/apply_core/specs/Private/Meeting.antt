@@ -7,7 +7,7 @@ use Rattle.target_tables.specs.declared.merge_side.MergeSide.{MergeSide}
 use Rattle.target_tables.specs.declared.merge_side.MergeSide.TheVariants.{First, Second}
 use Rattle.target_tables.specs.Merged.{comes_from}
 use Rattle.board_laws.specs.Meaning.{State}
-use Rattle.join_laws.specs.Order.{state_cmp}
+use Rattle.board_laws.specs.StateOrder.{state_cmp}
 
 -- whether a stream's state in the second list is further on
 abbrev pub IsFurther : List State → List State → ℕ → Bool → Type 0

@@ -9,7 +9,7 @@ use Rattle.source_feed.specs.declared.fault.FeedFault.TheVariants as feed
 use Rattle.source_feed.specs.Planned.{FeedValue}
 use Rattle.source_feed.specs.SoundGroups.{IsFirstFault}
 use Rattle.board_laws.specs.Meaning.{State}
-use Rattle.join_laws.specs.Refused.{IsFirstClash}
+use Rattle.board_laws.specs.RefusedJoin.{IsFirstClash}
 use Rattle.checkpoint_laws.specs.declared.fault.ResumeFault.{ResumeFault}
 use Rattle.checkpoint_laws.specs.declared.fault.ResumeFault.TheVariants.{FeedCount, WrongPlan, Unsound, CheckpointDiffers, OwnedByOther, Memory}
 use Rattle.checkpoint_laws.specs.Saved.{SavedStream}

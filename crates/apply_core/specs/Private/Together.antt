@@ -8,12 +8,12 @@ use Rattle.target_tables.specs.Touches.{last_at, IsLeastClash}
 use Rattle.source_feed.specs.History.{RowValue}
 use Rattle.board_laws.specs.Meaning.{State, TargetRows, Meaning}
 use Rattle.board_laws.specs.Step.{due_at}
-use Rattle.join_laws.specs.declared.fault.JoinFault.{JoinFault}
-use Rattle.join_laws.specs.declared.fault.JoinFault.TheVariants.{WrongPlan, HistoriesDiffer, OwnedByOther, Memory}
-use Rattle.join_laws.specs.Chosen.{all_chosen}
-use Rattle.join_laws.specs.Joined.{rows_from}
-use Rattle.join_laws.specs.Compatible.{AreApart, AreCompatible}
-use Rattle.join_laws.specs.Refused.{IsFirstClash}
+use Rattle.board_laws.specs.declared.join_fault.JoinFault.{JoinFault}
+use Rattle.board_laws.specs.declared.join_fault.JoinFault.TheVariants.{WrongPlan, HistoriesDiffer, OwnedByOther, Memory}
+use Rattle.board_laws.specs.Chosen.{all_chosen}
+use Rattle.board_laws.specs.Joined.{rows_from}
+use Rattle.board_laws.specs.Compatible.{AreApart, AreCompatible}
+use Rattle.board_laws.specs.RefusedJoin.{IsFirstClash}
 use Rattle.apply_core.specs.Private.Meeting.{AreFurtherSides}
 use Rattle.apply_core.specs.declared.joining.JoinSource.{JoinSource}
 use Rattle.apply_core.specs.declared.joining.JoinSource.TheVariants.{First, Second, Both}

@@ -3,7 +3,7 @@ use Rattle.std.proofs.lemmas.Result.{err_from_is_err_and}
 use Rattle.std.specs.Arc.{arc_value}
 use Rattle.stream_core.specs.Standing.{Standing}
 use Rattle.source_feed.specs.SoundGroups.{sound_groups}
-use Rattle.added_laws.specs.Extended.{marks_of_more}
+use Rattle.board_laws.specs.Extended.{marks_of_more}
 use Rattle.apply_core.specs.Private.Adding.{IsExtendedBy}
 use Rattle.apply_core.proofs.AddLaws.{wanted_behind, made_extended, made_stream}
 use Rattle.apply_core.proofs.StreamLaws.{stands-behind}

@@ -1,7 +1,7 @@
 use Rattle.std.proofs.Common.{◌<◌, length, refl, sym, subst}
 use Rattle.std.proofs.lemmas.Option.{slice_get_read}
 use Rattle.std.proofs.lemmas.Result.{err_from_is_err_and}
-use Rattle.added_laws.specs.declared.fault.AddFault.TheVariants.{Memory}
+use Rattle.board_laws.specs.declared.add_fault.AddFault.TheVariants.{Memory}
 use Rattle.apply_core.specs.Private.Adding.{AreStopped}
 use Rattle.apply_core.proofs.AddLaws.{wanted_behind, extended_none, extended_more, stops_here}
 use Rattle.apply_core.proofs.added_streams.extended_streams.Goals as goal

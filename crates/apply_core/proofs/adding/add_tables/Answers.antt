@@ -2,8 +2,8 @@ use Rattle.std.proofs.Common.{◌≡◌, map, refl, sym, subst, ◌∙◌}
 use Rattle.std.specs.Arc.{arc_value}
 use Rattle.board_laws.specs.Lawful.{IsLawful}
 use Rattle.board_laws.specs.Reading.{AllReadTheirFeeds}
-use Rattle.added_laws.specs.Extended.{extended_board, MayExtend}
-use Rattle.added_laws.proofs.Boards.{as_many}
+use Rattle.board_laws.specs.Extended.{extended_board, MayExtend}
+use Rattle.board_laws.proofs.AddedBoards.{as_many}
 use Rattle.apply_core.specs.Ended.{IsFedBoard}
 use Rattle.apply_core.proofs.AddLaws.{as_many_as, may_extend, memory_alone, all_streams, extended_is}
 use Rattle.apply_core.proofs.adding.add_tables.Goals as goal

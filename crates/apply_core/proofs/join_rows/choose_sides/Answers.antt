@@ -4,8 +4,8 @@ use Rattle.pk_copy.specs.KeyValue.{KeyValue}
 use Rattle.target_tables.specs.declared.merge_side.MergeSide.{MergeSide}
 use Rattle.target_tables.specs.Common.{common}
 use Rattle.board_laws.specs.Meaning.{TargetRows, Meaning}
-use Rattle.join_laws.specs.Chosen.{all_chosen}
-use Rattle.join_laws.specs.Refused.{IsFirstClash}
+use Rattle.board_laws.specs.Chosen.{all_chosen}
+use Rattle.board_laws.specs.RefusedJoin.{IsFirstClash}
 use Rattle.apply_core.specs.Private.Meeting.{Met, NoneClash, IsFirstMet}
 use Rattle.apply_core.proofs.MeetingLaws.{none_apart, first_clash}
 use Rattle.apply_core.proofs.join_rows.choose_sides.Goals as goal

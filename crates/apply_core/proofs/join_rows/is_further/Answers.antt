@@ -1,5 +1,5 @@
 use Rattle.std.proofs.Common.{◌≡◌, ◌<◌, length, slice_get, Some, subst}
-use Rattle.join_laws.proofs.Pairs.{same_plan}
+use Rattle.board_laws.proofs.JoinedPairs.{same_plan}
 use Rattle.apply_core.proofs.JoinLaws.{as_long, stream_at}
 use Rattle.apply_core.proofs.join_rows.is_further.Goals as goal
 

@@ -1,7 +1,7 @@
 use Rattle.std.proofs.Common.{◌≡◌, List, sym, ap, subst, ◌∙◌, MatchOption}
 use Rattle.board_laws.specs.Meaning.{State, Meaning}
-use Rattle.join_laws.specs.Compatible.{OfEachStream}
-use Rattle.join_laws.specs.Refused.{IsFirstNot}
+use Rattle.board_laws.specs.Compatible.{OfEachStream}
+use Rattle.board_laws.specs.RefusedJoin.{IsFirstNot}
 use Rattle.apply_core.specs.Private.Beside.{Premise, Passes}
 use Rattle.apply_core.proofs.joining.first_stream_not.Goals as goal
 

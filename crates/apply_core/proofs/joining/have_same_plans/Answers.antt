@@ -1,6 +1,6 @@
 use Rattle.std.proofs.Common.{refl, arith}
 use Rattle.std.proofs.lemmas.Bool.{false≢true}
-use Rattle.join_laws.proofs.Pairs.{same_plan}
+use Rattle.board_laws.proofs.JoinedPairs.{same_plan}
 use Rattle.apply_core.proofs.JoinLaws.{plans_by}
 use Rattle.apply_core.proofs.joining.have_same_plans.Goals as goal
 

@@ -1,6 +1,6 @@
 use Rattle.std.proofs.lemmas.Bool.{false≢true}
 use Rattle.apply_core.proofs.JoinLaws.{as_long, none_further}
-use Rattle.join_laws.proofs.Pairs.{same_plan}
+use Rattle.board_laws.proofs.JoinedPairs.{same_plan}
 use Rattle.apply_core.proofs.joining.holds_all.Goals as goal
 
 pub first_stream_not-requires-clause-both : goal.first_stream_not-requires-clause-both

@@ -3,8 +3,8 @@ use Rattle.pk_copy.specs.KeyOrder.{key_cmp}
 use Rattle.target_tables.specs.Merged.{AreMerged}
 use Rattle.board_laws.specs.Lawful.{IsLawful}
 use Rattle.board_laws.specs.Meaning.{State, TargetRows, Meaning}
-use Rattle.join_laws.specs.Chosen.{all_chosen}
-use Rattle.join_laws.specs.Joined.{rows_from}
+use Rattle.board_laws.specs.Chosen.{all_chosen}
+use Rattle.board_laws.specs.Joined.{rows_from}
 use Rattle.apply_core.proofs.BoardLaws.{refilled}
 use Rattle.apply_core.proofs.JoinLaws.{both_joined, both_lawful}
 use Rattle.apply_core.proofs.MeetingLaws.{rows_of_both}

@@ -1,6 +1,6 @@
 use Rattle.std.proofs.Common.{refl, sym, subst}
 use Rattle.std.specs.Prelude.{IsTrue}
-use Rattle.join_laws.proofs.Pairs.{same_plan}
+use Rattle.board_laws.proofs.JoinedPairs.{same_plan}
 use Rattle.apply_core.proofs.joining.judge.Goals as goal
 
 pub first_stream_not-requires-clause-premise : goal.first_stream_not-requires-clause-premise

@@ -1,5 +1,5 @@
 use Rattle.std.proofs.Common.{◌≡◌, slice_get, get_or, Some}
-use Rattle.join_laws.proofs.Pairs.{same_plan}
+use Rattle.board_laws.proofs.JoinedPairs.{same_plan}
 use Rattle.apply_core.proofs.JoinLaws.{was_here, was_there, here_at, there_at, one_further, all_further}
 use Rattle.apply_core.proofs.joining.keep_all_further.Goals as goal
 

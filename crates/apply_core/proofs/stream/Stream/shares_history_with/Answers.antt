@@ -3,7 +3,7 @@ use Rattle.std.proofs.lemmas.Bool.{true≢false}
 use Rattle.std.specs.Prelude.{IsTrue, ◌↔◌}
 use Rattle.std.specs.Arc.{arc_value}
 use Rattle.board_laws.specs.Meaning.{State}
-use Rattle.join_laws.specs.Compatible.{IsBeginning}
+use Rattle.board_laws.specs.Compatible.{IsBeginning}
 use Rattle.apply_core.proofs.BesideLaws.{begins_as}
 use Rattle.apply_core.proofs.stream.Stream.shares_history_with.Goals as goal
 

@@ -1,3 +1,0 @@
-pub mod OldTables
-pub mod States
-pub mod Boards

@@ -1,4 +1,0 @@
-pub mod GoingOn
-pub mod Extended
-pub mod Faults
-pub mod Laws

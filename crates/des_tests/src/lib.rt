@@ -1,5 +1,0 @@
-//! Tests of the cipher.
-#![tactic(auto)]
-
-#[cfg(test)]
-mod vectors;

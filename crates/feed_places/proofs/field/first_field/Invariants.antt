@@ -1,7 +1,0 @@
-use Rattle.std.proofs.Common.{◌≡◌, ◌+◌, drop}
-use Rattle.feed_places.specs.Differing.{first_message}
-use Rattle.feed_places.proofs.field.first_field.Given as goal
-
--- the first is that of the messages that are left
-abbrev pub invariant-loop-i : goal.invariant-loop-i
-invariant-loop-i l = first_message l.plan (l.i + 1) (drop l.i l.messages) ≡ first_message l.plan 1 l.messages

@@ -1,4 +1,0 @@
-pub mod Messages
-pub mod Front
-pub mod Differing
-pub mod Place

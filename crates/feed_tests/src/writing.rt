@@ -1,0 +1,4 @@
+//! Tests of the crates that write a feed.
+
+mod compacting;
+mod messages;

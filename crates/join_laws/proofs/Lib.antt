@@ -1,6 +1,0 @@
-pub mod Choosing
-pub mod States
-pub mod Pairs
-pub mod Rows
-pub mod Boards
-pub mod Feeds

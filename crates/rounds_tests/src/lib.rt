@@ -1,7 +1,0 @@
-//! Tests of rounds of a board, in threads and without.
-#![tactic(auto)]
-
-#[cfg(test)]
-mod feeds;
-#[cfg(test)]
-mod rounds;

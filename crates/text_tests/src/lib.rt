@@ -1,5 +1,0 @@
-//! Tests of feeds of texts.
-#![tactic(auto)]
-
-#[cfg(test)]
-mod texts;
