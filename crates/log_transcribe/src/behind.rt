@@ -152,7 +152,7 @@ impl<'t, 'w> Transcript<'t, 'w> {
     }
 
     /// Passes over it, where the feed has it, or tells it.
-    fn take_group(
+    pub(crate) fn take_group(
         &mut self,
         alloc: Global,
         out: &mut Vec<u8>,

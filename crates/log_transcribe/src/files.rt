@@ -50,6 +50,7 @@ pub trait LogFiles {
 }
 
 /// Logs that are in memory.
+#[derive(Drop)]
 pub(crate) struct LentLogs<'l, 'b> {
     pub(crate) logs: &'l [&'b [u8]],
 }

@@ -182,7 +182,7 @@ fn send_all<L: LogFiles, W: Out>(
     outgoing: &mut Outgoing,
     log: Option<LogBytes<'_>>,
 ) -> Result<(), StreamError>
-    requires { HasFirst (L.many files.now) log.entry }
+    requires { HasFirst (L.many files.now) log }
     ensures told { PutsFiles (λ others. logs_behind 0 sequel.old.source sequel.old.had (logs_from log.entry others) sequel.old.along) (L.gives files.now) (place_behind log.entry) (L.many files.now) sequel.new.along result (sending (W.written out.old) outgoing.old) (sending (W.written out.new) outgoing.new) }
     ensures source { sequel.new.source ≡ sequel.old.source }
     ensures had { sequel.new.had ≡ sequel.old.had }
@@ -223,7 +223,7 @@ fn told_behind<L: LogFiles, W: Out>(
     out: &mut W,
     log: Option<LogBytes<'_>>,
 ) -> Result<usize, StreamError>
-    requires { HasFirst (L.many files.now) log.entry }
+    requires { HasFirst (L.many files.now) log }
     ensures { TellsAll (λ others. behind_told sequel.entry.source sequel.entry.had sequel.entry.along (logs_from log.entry others)) (L.gives files.now) (place_behind log.entry) (L.many files.now) result (W.written out.old) (W.written out.new) }
 {
     let mut sequel = sequel;

@@ -1,5 +1,5 @@
 -- Messages on their way to a writer, file by file.
-use Rattle.std.specs.Prelude.{◌≡◌, ◌<◌, ℕ, ◌+◌, ◌-◌, ◌^◌, min, Bool, true, false, List, [], ◌∷◌, ◌++◌, length, Option, None, Some, Result, Ok, Err}
+use Rattle.std.specs.Prelude.{◌≡◌, ◌<◌, ◌≤◌, ℕ, ◌+◌, ◌-◌, ◌^◌, min, Bool, true, false, List, [], ◌∷◌, ◌++◌, length, Option, None, Some, Result, Ok, Err}
 use Rattle.list_laws.specs.Outcome.{◌>>=◌}
 use Rattle.printing.specs.Printing.{Written, IsWritten, BreaksOff}
 use Rattle.vevent.specs.EventValue.{EventValue}
@@ -100,6 +100,7 @@ pub record AreTold {A : Type 0} (tells : List (List ℕ) → Result (Going A) Lo
 pub record AreRefused {X : Type 0} (tells : List (List ℕ) → Result X LogsFault) (Gives : ℕ → List ℕ → Type 0) (file many : ℕ) (fault : LogsFault) : Type 0 where
   pub logs : List (List ℕ)
   pub gave : GaveFrom Gives file logs
+  pub within : file + length logs ≤ many
   pub is : (others : List (List ℕ)) → file + (length logs + length others) ≡ many → tells (logs ++ others) ≡ Err fault
 
 -- The files from one on gave bytes up to this one of so many.
@@ -132,7 +133,7 @@ pub record AreWritten (tells : List (List ℕ) → Result (List (List EventValue
   pub feed : List ℕ
   pub is : bytes_told (tells logs) ≡ Ok feed
   pub written : IsWritten old new feed
-  pub size : size ≡ counted (length feed)
+  pub many_bytes : size ≡ counted (length feed)
 
 abbrev pub TellsAll : (List (List ℕ) → Result (List (List EventValue)) LogsFault) → (ℕ → List ℕ → Type 0) → ℕ → ℕ → Result ℕ StreamError → Written → Written → Type 0
 TellsAll tells Gives file many (Ok size) old new = AreWritten tells Gives file many size old new

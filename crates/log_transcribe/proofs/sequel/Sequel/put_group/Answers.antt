@@ -1,6 +1,6 @@
 use Rattle.log_course.specs.Calls.{placed_value}
 use Rattle.log_transcribe.proofs.GoingLaws.{group-stopped}
-use Rattle.log_transcribe.proofs.behind.Sequel.put_group.Goals as goal
+use Rattle.log_transcribe.proofs.sequel.Sequel.put_group.Goals as goal
 
 pub returns-in-Err-clause-told : goal.returns-in-Err-clause-told
 returns-in-Err-clause-told c =

@@ -1,7 +1,7 @@
 use Rattle.std.proofs.Common.{Ok, Err}
 use Rattle.log_course.specs.Calls.{placed_value}
 use Rattle.log_transcribe.proofs.GoingLaws.{next-went, none-went, fault-went}
-use Rattle.log_transcribe.proofs.behind.Sequel.put_next.Goals as goal
+use Rattle.log_transcribe.proofs.sequel.Sequel.put_next.Goals as goal
 
 pub returns-in-Ok-clause-told : goal.returns-in-Ok-clause-told
 returns-in-Ok-clause-told c =
