@@ -310,7 +310,7 @@ module _ {A : Type 0} (tells : List (List ℕ) → Result (Going A) LogsFault) (
         feed = sofar.goes.0 ++ end.0;
         is = part.ends sofar.logs (sofar.goes.0 ++ now.waits) far sofar.all (told_bytes sofar.logs far old now sofar.goes fresh) ∙ last_shifted (last far) sofar.goes.0 now.waits end.0 end.2;
         written = both.written;
-        many_bytes = is ∙ both.sent 0 none;
+        many_bytes = is ∙ both.sent 0 none ∙ ap counted (omega arith);
       }
 
   pub end_stopped : (last : A → Result (List (List EventValue)) LogsFault) → IsPart tells whole from many last → (far : A) (error : StreamError) (old now new : Sending) → old.waits ≡ []
