@@ -17,6 +17,7 @@ use vrepl_transcribe::{
 use vrepl_words::words::Transcribe;
 
 /// The logs' files of these names.
+#[derive(Drop)]
 struct NamedLogs<'r, 'n, 'w, R: Source> {
     rt: &'r R,
     names: &'n [&'w str],
@@ -36,7 +37,7 @@ impl<R: Source> LogFiles for NamedLogs<'_, '_, '_, R> {
         let Some(name) = self.names.get(file) else {
             return Err(ReadFault::Unread);
         };
-        match read_input(self.rt, &Untold, InputName::File(name)) {
+        match read_input(self.rt, &Untold, InputName::File(*name)) {
             Ok(bytes) => Ok(LogBytes::Read(bytes)),
             Err(CommandRefusal::Memory) => Err(ReadFault::Memory),
             Err(_) => Err(ReadFault::Unread),
@@ -92,7 +93,7 @@ fn unread<'w>(names: &[&'w str], file: usize) -> CommandRefusal<'w>
     ensures { IfSome (slice_get names.now file) (λ name. IsUnread name.now result) }
 {
     match names.get(file) {
-        Some(name) => CommandRefusal::CannotRead { file: name },
+        Some(name) => CommandRefusal::CannotRead { file: *name },
         None => CommandRefusal::Memory,
     }
 }
