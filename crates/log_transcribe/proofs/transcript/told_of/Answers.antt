@@ -11,3 +11,19 @@ returns-in-Err g c =
     files_stopped (λ logs. logs_told 0 (source_value c.args.source) logs (nothing_told (source_value c.args.source))) (λ logs. feed_told (source_value c.args.source) logs) (g.L.LogFiles.gives c.args.files.now) 0 (g.L.LogFiles.many c.args.files.now)
     (λ far. of_tell (g.L.LogFiles.many c.args.files.now) (last_told (source_value c.args.source) far)) (feed_part (source_value c.args.source) (g.L.LogFiles.many c.args.files.now)) c.send_files.new.self.far c.in-Err.error
     (sending (g.W.Out.written c.args.out.now) c.new-outgoing.result) (sending (g.W.Out.written c.send_files.new.out) c.send_files.new.outgoing) (rw c.in_ok-transcript.ensures at c.in-Err.ensures.told)
+
+pub returns-in-Ok : goal.returns-in-Ok
+returns-in-Ok g c =
+    all_written (λ logs. logs_told 0 (source_value c.args.source) logs (nothing_told (source_value c.args.source))) (λ logs. feed_told (source_value c.args.source) logs) (g.L.LogFiles.gives c.args.files.now) 0 (g.L.LogFiles.many c.args.files.now)
+    (λ far. of_tell (g.L.LogFiles.many c.args.files.now) (last_told (source_value c.args.source) far)) (feed_part (source_value c.args.source) (g.L.LogFiles.many c.args.files.now)) c.send_files.new.self.far _
+    (sending (g.W.Out.written c.args.out.now) c.new-outgoing.result) (sending (g.W.Out.written c.send_files.new.out) c.send_files.new.outgoing) (sending (g.W.Out.written c.send_end.new.out) c.send_end.new.outgoing)
+    c.new-outgoing.ensures.waits c.new-outgoing.ensures.sent refl (rw c.in_ok-transcript.ensures at c.in_default.ensures.told)
+    (rw (c.count.ensures, c.in_default.ensures.source, c.in_ok-transcript.ensures) at c.in-Ok.ensures)
+
+pub returns : goal.returns
+returns g c =
+    end_stopped (λ logs. logs_told 0 (source_value c.args.source) logs (nothing_told (source_value c.args.source))) (λ logs. feed_told (source_value c.args.source) logs) (g.L.LogFiles.gives c.args.files.now) 0 (g.L.LogFiles.many c.args.files.now)
+    (λ far. of_tell (g.L.LogFiles.many c.args.files.now) (last_told (source_value c.args.source) far)) (feed_part (source_value c.args.source) (g.L.LogFiles.many c.args.files.now)) c.send_files.new.self.far c.in-Err-send_end.error
+    (sending (g.W.Out.written c.args.out.now) c.new-outgoing.result) (sending (g.W.Out.written c.send_files.new.out) c.send_files.new.outgoing) (sending (g.W.Out.written c.send_end.new.out) c.send_end.new.outgoing)
+    c.new-outgoing.ensures.waits (rw c.in_ok-transcript.ensures at c.in_default.ensures.told)
+    (rw (c.count.ensures, c.in_default.ensures.source, c.in_ok-transcript.ensures) at c.in-Err-send_end.ensures)
