@@ -21,7 +21,7 @@ ItemsOf all file bytes = slice_get all file ≡ Some bytes
 
 shift : (x : List ℕ) (all : List (List ℕ)) (from : ℕ) (logs : List (List ℕ)) → GaveFrom (ItemsOf (x ∷ all)) (from + 1) logs → GaveFrom (ItemsOf all) from logs
 shift x all from [] g = tt
-shift x all from (b ∷ logs) g = (subst (λ (n : ℕ). slice_get (x ∷ all) n ≡ Some b) (omega arith) g.0, shift x all (from + 1) logs g.1)
+shift x all from (b ∷ logs) g = let next : from + 1 ≡ suc from = omega arith in (subst (λ (n : ℕ). slice_get (x ∷ all) n ≡ Some b) next g.0, shift x all (from + 1) logs g.1)
 
 same_some : (x y : List ℕ) → ◌≡◌ {A = Option (List ℕ)} (Some x) (Some y) → x ≡ y
 same_some x y e = cc

@@ -272,7 +272,7 @@ behind_are s had file (bytes ∷ logs) a = same_then (λ a. logs_behind (file + 
 
 -- ---- the whole
 
-no_others : (logs others : List (List ℕ)) (from many : ℕ) → from + length logs ≡ many → from + (length logs + length others) ≡ many → others ≡ []
+pub no_others : (logs others : List (List ℕ)) (from many : ℕ) → from + length logs ≡ many → from + (length logs + length others) ≡ many → others ≡ []
 no_others logs [] from many all both = refl
 no_others logs (o ∷ others) from many all both = absurd (omega (arith, all, both))
 

@@ -135,8 +135,8 @@ module _ (s : SourceTables) (feed : List ℕ) (Gives : ℕ → List ℕ → Type
   unread_behind None at first gave u = absurd (omega (arith, first, u.within))
   unread_behind (Some log) at first gave u = record { within = u.within; logs = log_bytes log ∷ u.logs; gave = (gave, u.gave); before = omega (arith, u.before) }
 
-  unmade : {had : List Stage} {a : Along} (logs : List (List ℕ)) (fault : LogsFault) → behind_told s had a logs ≡ Err fault → bytes_behind s feed had a logs ≡ Err fault
-  unmade logs fault e = rw e refl
+  unmade : (had : List Stage) (a : Along) (logs : List (List ℕ)) (fault : LogsFault) → behind_told s had a logs ≡ Err fault → bytes_behind s feed had a logs ≡ Err fault
+  unmade had a logs fault e = rw e refl
 
   -- whatever the others have
   refused_so : (log : Option LogBytes) (logs : List (List ℕ)) (fault : BehindFault) → HasFirst many log → place_behind log + length logs ≤ many
@@ -218,7 +218,7 @@ module _ (s : SourceTables) (feed : List ℕ) (Gives : ℕ → List ℕ → Type
       logs = logs_from log w.logs;
       gave = gave_all log w.logs gave w.gave;
       is = refused_so log w.logs (behind_fault.Logs fault) first w.within
-      (λ others both. faulty (w.logs ++ others) fault (unmade (logs_from log (w.logs ++ others)) fault (sym (told_is (logs_from log (w.logs ++ others))) ∙ w.is others both)));
+      (λ others both. faulty (w.logs ++ others) fault (unmade o.had (along_of o.reached o.first o.had) (logs_from log (w.logs ++ others)) fault (sym (told_is (logs_from log (w.logs ++ others))) ∙ w.is others both)));
     }
 
 -- ---- what is wrong with the feed, or where the first log begins

@@ -99,6 +99,17 @@ module _ (inputs : TranscribeInputs) (plan : PlanValue) (Gives : ℕ → List �
     is,
   )
 
+  -- the same of a source that is this one
+  abbrev StreamsOf : SourceTables → Result (Unit {0}) StreamError → Written → Written → Type 0
+  StreamsOf x result old new = stream.EndsSo (λ logs. made_from x after logs) (λ logs feed. IsSource x → IsMade x after logs feed) Gives many result old new
+
+  pub written_from : (x : SourceTables) (old new : Written) → x ≡ s → first_unplain plan.tables ≡ None → IsSource s → StreamsOf x (Ok tt) old new → EndsUnder inputs plan Gives many (Ok tt) old new
+  written_from x old new same plain right w = written_under old new plain right (subst (λ (x : SourceTables). StreamsOf x (Ok tt) old new) same w)
+
+  pub why_from : (x : SourceTables) (error : StreamError) (why : Untranscribed) (old new : Written) → x ≡ s → first_unplain plan.tables ≡ None → StreamsOf x (Err error) old new → IsWhyOf (names_of inputs) x.tables error why → EndsUnder inputs plan Gives many (Err why) old new
+  why_from x error why old new same plain w is =
+      why_under error why old new plain (subst (λ (x : SourceTables). StreamsOf x (Err error) old new) same w) (subst (λ (x : SourceTables). IsWhyOf (names_of inputs) x.tables error why) same is)
+
 -- ---- the whole
 
 module _ (inputs : TranscribeInputs) (Gives : ℕ → List ℕ → Type 0) (many : ℕ) where

@@ -27,9 +27,9 @@ returns-in-Ok-clause-right c =
 pub returns-in-Err-Fault-clause-exact : goal.returns-in-Err-Fault-clause-exact
 returns-in-Err-Fault-clause-exact c =
     all_refused (λ logs. behind_of_logs (source_value c.args.source) c.args.feed.now logs) (λ logs more. IsSource (source_value c.args.source) → IsFeedBehind (source_value c.args.source) c.args.feed.now logs more) (bytes_of c.args.logs.now) (length c.args.logs.now)
-    (behind_fault.Logs c.in-Err-Fault.fault) (many_of c.args.logs.now) (rw c.in_ok-feed.ensures at c.in-Err-Fault.ensures)
+    (behind_fault.Logs c.in-Err-Fault.fault) (many_of c.args.logs.now) (rw (c.in_ok-feed.ensures, c.in-Err-Fault.field-0-is) at c.in-Err-Fault.ensures)
 
 pub returns-in-Err-Feed-clause-exact : goal.returns-in-Err-Feed-clause-exact
 returns-in-Err-Feed-clause-exact c =
     all_refused (λ logs. behind_of_logs (source_value c.args.source) c.args.feed.now logs) (λ logs more. IsSource (source_value c.args.source) → IsFeedBehind (source_value c.args.source) c.args.feed.now logs more) (bytes_of c.args.logs.now) (length c.args.logs.now)
-    (behind_fault.Feed c.in-Err-Feed.fault) (many_of c.args.logs.now) (rw c.in_ok-feed.ensures at c.in-Err-Feed.ensures)
+    (behind_fault.Feed c.in-Err-Feed.fault) (many_of c.args.logs.now) (rw (c.in_ok-feed.ensures, c.in-Err-Feed.field-0-is) at c.in-Err-Feed.ensures)

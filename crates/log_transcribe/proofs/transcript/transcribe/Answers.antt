@@ -29,4 +29,4 @@ pub returns-in-Err-Fault-clause-exact : goal.returns-in-Err-Fault-clause-exact
 returns-in-Err-Fault-clause-exact c =
     logs_refused (feed_of_logs (source_value c.args.source) (bytes_of c.args.logs.now)) c.in-Err-Fault.fault
     (all_refused (λ logs. of_logs (feed_of_logs (source_value c.args.source) logs)) (λ logs feed. IsSource (source_value c.args.source) → IsFeedOfLogs (source_value c.args.source) logs feed) (bytes_of c.args.logs.now) (length c.args.logs.now)
-    (behind_fault.Logs c.in-Err-Fault.fault) (many_of c.args.logs.now) c.in-Err-Fault.ensures)
+    (behind_fault.Logs c.in-Err-Fault.fault) (many_of c.args.logs.now) (rw c.in-Err-Fault.field-0-is at c.in-Err-Fault.ensures))

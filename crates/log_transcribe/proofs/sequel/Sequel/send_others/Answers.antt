@@ -17,7 +17,7 @@ loop-file-init g c = (
 pub returns-in-Err-clause-told : goal.returns-in-Err-clause-told
 returns-in-Err-clause-told g c =
     file_stops (λ file bytes far. log_behind file c.args.self.now.source c.args.self.now.had bytes far) (λ logs. logs_behind 1 c.args.self.now.source c.args.self.now.had logs c.args.self.now.along) (g.L.LogFiles.gives c.args.files.now) 1 c.args.self.now.along (λ logs. behind_are c.args.self.now.source c.args.self.now.had 1 logs c.args.self.now.along)
-    c.loop-file.file _ _ _ _ c.in-Err.error _ _ _ (omega (arith, c.count-file-end.ensures, c.loop-file-test.true)) c.loop-file.invariant.0
+    c.loop-file.file (g.L.LogFiles.many c.args.files.now) c.loop-file.self.along c.send_file.new.self.along c.send_file.new.self.along c.in-Err.error (sending (g.W.Out.written c.args.out.now) c.args.outgoing.now) (sending (g.W.Out.written c.loop-file.out) c.loop-file.outgoing) (sending (g.W.Out.written c.send_file.new.out) c.send_file.new.outgoing) (omega (arith, c.count-file-end.ensures, c.loop-file-test.true)) c.loop-file.invariant.0
     (subst (λ (h : List Stage). PutsFile (λ file bytes far. log_behind file c.args.self.now.source h bytes far) (g.L.LogFiles.gives c.args.files.now) c.loop-file.file c.loop-file.self.along c.send_file.new.self.along (Err c.in-Err.error) (sending (g.W.Out.written c.loop-file.out) c.loop-file.outgoing) (sending (g.W.Out.written c.send_file.new.out) c.send_file.new.outgoing)) c.loop-file.invariant.2
     (subst (λ (x : SourceTables). PutsFile (λ file bytes far. log_behind file x c.loop-file.self.had bytes far) (g.L.LogFiles.gives c.args.files.now) c.loop-file.file c.loop-file.self.along c.send_file.new.self.along (Err c.in-Err.error) (sending (g.W.Out.written c.loop-file.out) c.loop-file.outgoing) (sending (g.W.Out.written c.send_file.new.out) c.send_file.new.outgoing)) c.loop-file.invariant.1 c.in-Err.ensures.told))
 

@@ -15,7 +15,7 @@ loop-file-init g c = (
 pub returns-in-Err-clause-told : goal.returns-in-Err-clause-told
 returns-in-Err-clause-told g c =
     file_stops (λ file bytes far. log_told file c.args.self.now.source bytes far) (λ logs. logs_told 0 c.args.self.now.source logs c.args.self.now.far) (g.L.LogFiles.gives c.args.files.now) 0 c.args.self.now.far (λ logs. logs_are c.args.self.now.source 0 logs c.args.self.now.far)
-    c.loop-file.file _ _ _ _ c.in-Err.error _ _ _ (omega (arith, c.count-file-end.ensures, c.loop-file-test.true)) c.loop-file.invariant.0
+    c.loop-file.file (g.L.LogFiles.many c.args.files.now) c.loop-file.self.far c.send_file.new.self.far c.send_file.new.self.far c.in-Err.error (sending (g.W.Out.written c.args.out.now) c.args.outgoing.now) (sending (g.W.Out.written c.loop-file.out) c.loop-file.outgoing) (sending (g.W.Out.written c.send_file.new.out) c.send_file.new.outgoing) (omega (arith, c.count-file-end.ensures, c.loop-file-test.true)) c.loop-file.invariant.0
     (subst (λ (x : SourceTables). PutsFile (λ file bytes far. log_told file x bytes far) (g.L.LogFiles.gives c.args.files.now) c.loop-file.file c.loop-file.self.far c.send_file.new.self.far (Err c.in-Err.error) (sending (g.W.Out.written c.loop-file.out) c.loop-file.outgoing) (sending (g.W.Out.written c.send_file.new.out) c.send_file.new.outgoing)) c.loop-file.invariant.1 c.in-Err.ensures.told)
 
 pub loop-file-preserved : goal.loop-file-preserved
