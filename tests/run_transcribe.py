@@ -214,7 +214,7 @@ class Trial:
             wants(ran[0] == 1 and not ran[1] and ran[2].startswith(b"refused 85") or not self.history.fields, ("other columns", ran))
 
     def line_after(self, ran: tuple[int, bytes, bytes], number: int, name: str) -> None:
-        wants(ran[0] == 1 and not ran[1] and ran[2].startswith(b"refused %d file %s" % (number, name.encode())), ran)
+        self.line(ran, {number}, name)
 
     def all(self) -> None:
         self.plain()
