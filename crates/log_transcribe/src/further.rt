@@ -11,7 +11,7 @@ ghost use Rattle.log_transcribe.specs.Further.{IsFeedBehind};
 ghost use Rattle.log_transcribe.specs.Streamed.{EndsSo};
 ghost use Rattle.log_transcribe.specs.Files.{log_bytes};
 ghost use Rattle.log_transcribe.specs.Private.Opens.{HasFirst, IsFirst, OpensBehind, logs_from, place_behind, stop_of};
-ghost use Rattle.log_transcribe.specs.Private.Sends.{IsOfLogs, Puts, PutsFiles, TellsAll, sending};
+ghost use Rattle.log_transcribe.specs.Private.Sends.{IsOfLogs, Puts, PutsFiles, TellsAll, behind_error_of, sending};
 
 use crate::fault::{BehindError, BehindFault, LogsError, LogsFault, StreamError};
 use crate::files::{LentLogs, LogBytes, LogFiles, ReadFault};
@@ -312,8 +312,17 @@ pub fn transcribe_behind(
     let mut spool = Spool::new(alloc);
     match transcribe_behind_to(alloc, source, feed, &LentLogs { logs }, &mut spool) {
         Ok(()) => Ok(spool.into_bytes()),
-        Err(StreamError::Fault(fault, _)) => Err(BehindError::Fault(BehindFault::Logs(fault))),
-        Err(StreamError::Feed(fault)) => Err(BehindError::Fault(BehindFault::Feed(fault))),
-        Err(_) => Err(BehindError::Memory),
+        Err(error) => Err(of_stream(error)),
+    }
+}
+
+/// What is wrong with a feed, or with logs that are in memory.
+fn of_stream(error: StreamError) -> BehindError
+    ensures { result ≡ behind_error_of error }
+{
+    match error {
+        StreamError::Fault(fault, _) => BehindError::Fault(BehindFault::Logs(fault)),
+        StreamError::Feed(fault) => BehindError::Fault(BehindFault::Feed(fault)),
+        _ => BehindError::Memory,
     }
 }

@@ -7,6 +7,9 @@ use Rattle.log_laws.specs.Transcript.{written as bytes_of}
 use Rattle.log_transcribe.specs.declared.fault.LogsFault.{LogsFault}
 use Rattle.log_transcribe.specs.declared.fault.LogsError.{LogsError}
 use Rattle.log_transcribe.specs.declared.fault.LogsError.TheVariants as logs_error
+use Rattle.log_transcribe.specs.declared.fault.BehindFault.TheVariants.{Feed, Logs}
+use Rattle.log_transcribe.specs.declared.fault.BehindError.{BehindError}
+use Rattle.log_transcribe.specs.declared.fault.BehindError.TheVariants as behind_error
 use Rattle.log_transcribe.specs.declared.fault.StreamError.{StreamError}
 use Rattle.log_transcribe.specs.declared.fault.StreamError.TheVariants as stop
 use Rattle.log_transcribe.specs.declared.outgoing.Outgoing.{Outgoing}
@@ -140,3 +143,16 @@ TellsAll tells Gives file many (Ok size) old new = AreWritten tells Gives file m
 TellsAll tells Gives file many (Err (stop.Unread at)) old new = AreUnread Gives file many at
 TellsAll tells Gives file many (Err (stop.Fault fault byte)) old new = AreRefused tells Gives file many fault
 TellsAll tells Gives file many (Err error) old new = Stops nothing error old new
+
+-- ---- of logs that are in memory
+
+-- a fault of the logs; any other error is want of memory there
+abbrev pub logs_error_of : StreamError → LogsError
+logs_error_of (stop.Fault fault byte) = logs_error.Fault fault
+logs_error_of error = logs_error.Memory
+
+-- the same, or a fault of the feed
+abbrev pub behind_error_of : StreamError → BehindError
+behind_error_of (stop.Fault fault byte) = behind_error.Fault (Logs fault)
+behind_error_of (stop.Feed fault) = behind_error.Fault (Feed fault)
+behind_error_of error = behind_error.Memory
