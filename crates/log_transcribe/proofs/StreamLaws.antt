@@ -359,3 +359,47 @@ behind_part s had along log many first = record {
     counts : (log : Option LogBytes) → HasFirst many log → (others : List (List ℕ)) → place_behind log + length others ≡ many → length (logs_from log others) ≡ many
     counts None first others all = sym first
     counts (Some log) first others all = omega (arith, all)
+
+-- ---- the first file apart from the others
+
+module _ {A : Type 0} (first : Result (Going A) LogsFault) (rest : A → List (List ℕ) → Result (Going A) LogsFault) (tells : List (List ℕ) → Result (Going A) LogsFault) (is : (others : List (List ℕ)) → tells others ≡ then_told first (λ a. rest a others))
+  (Gives : ℕ → List ℕ → Type 0) (many : ℕ) where
+  first_fault : (r : Result (Going A) LogsFault) (others : List (List ℕ)) (fault : LogsFault) → r ≡ Err fault → then_told r (λ a. rest a others) ≡ Err fault
+  first_fault r others fault e = rw e refl
+
+  pub first_stopped : (far : A) (error : StreamError) (old now : Sending) → 1 ≤ many → Stops first error old.written now.written → PutsFiles tells Gives 1 many far (Err error) old now
+  first_stopped far stop.Memory old now some s = tt
+  first_stopped far stop.Unwritten old now some s = s
+  first_stopped far (stop.Unread at) old now some s = absurd s
+  first_stopped far (stop.Feed fault) old now some s = absurd s
+  first_stopped far (stop.Fault fault byte) old now some s = record { logs = []; gave = tt; within = omega (arith, some); is = λ others both. is others ∙ first_fault first others fault s }
+
+  pub others_behind : (mid next : A) (result : Result (Unit {0}) StreamError) (old now new : Sending) → GoesOn first (done mid) old now → PutsFiles (rest mid) Gives 1 many next result now new → PutsFiles tells Gives 1 many next result old new
+  others_behind mid next (Ok x) old now new goes p = record {
+    logs = p.logs;
+    gave = p.gave;
+    all = p.all;
+    goes =
+        let so = goes_then first (λ a. rest a p.logs) mid old now goes in
+        let whole : GoesOn (tells p.logs) (rest mid p.logs) old now = (so.0, so.1, ap (λ r. with_messages r old.waits) (is p.logs) ∙ so.2) in
+        goes_further (tells p.logs) (rest mid p.logs) (done next) old now new whole p.goes;
+  }
+  others_behind mid next (Err stop.Memory) old now new goes p = tt
+  others_behind mid next (Err stop.Unwritten) old now new goes p = breaks_behind old now new goes.0 goes.1 p
+  others_behind mid next (Err (stop.Unread at)) old now new goes p = p
+  others_behind mid next (Err (stop.Feed fault)) old now new goes p = absurd p
+  others_behind mid next (Err (stop.Fault fault byte)) old now new goes p = record {
+    logs = p.logs;
+    gave = p.gave;
+    within = p.within;
+    is = λ others both. is (p.logs ++ others) ∙ fault_then first (λ a. rest a (p.logs ++ others)) mid old now fault goes (p.is others both);
+  }
+
+pub behind_first : (s : SourceTables) (had : List Stage) (bytes : List ℕ) (others : List (List ℕ)) (a : Along) → logs_behind 0 s had (bytes ∷ others) a ≡ then_told (log_behind 0 s had bytes a) (λ b. logs_behind 1 s had others b)
+unfolding logs_behind
+behind_first s had bytes others a = refl
+
+-- no file
+pub no_file : (s : SourceTables) (had : List Stage) (Gives : ℕ → List ℕ → Type 0) (many : ℕ) (a : Along) (now : Sending) → many ≡ 0 → PutsFiles (λ others. logs_behind 0 s had [] a) Gives 0 many a (Ok tt) now now
+unfolding logs_behind
+no_file s had Gives many a now none = record { logs = []; gave = tt; all = omega (arith, none); goes = ([], went_nothing now, refl) }
