@@ -363,7 +363,7 @@ behind_part s had along log many first = record {
 -- ---- the first file apart from the others
 
 module _ {A : Type 0} (first : Result (Going A) LogsFault) (rest : A → List (List ℕ) → Result (Going A) LogsFault) (tells : List (List ℕ) → Result (Going A) LogsFault) (is : (others : List (List ℕ)) → tells others ≡ then_told first (λ a. rest a others))
-  (Gives : ℕ → List ℕ → Type 0) (many : ℕ) where
+    (Gives : ℕ → List ℕ → Type 0) (many : ℕ) where
   first_fault : (r : Result (Going A) LogsFault) (others : List (List ℕ)) (fault : LogsFault) → r ≡ Err fault → then_told r (λ a. rest a others) ≡ Err fault
   first_fault r others fault e = rw e refl
 

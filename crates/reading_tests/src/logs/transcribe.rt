@@ -293,7 +293,9 @@ fn files_one_at_a_time(rt: HostRuntime) -> Result<(), AllocError> {
     let gone = ends_on(rt.alloc(), &LOG, &mut kept)?;
     assert!(rt; matches!(gone, Err(StreamError::Unread(1))));
     let first = ends_on(rt.alloc(), b"no log", &mut kept)?;
-    assert!(rt; matches!(first, Err(StreamError::Fault(fault, Some(0))) if fault.number() == 140 && fault.file() == 0));
+    assert!(rt;
+        matches!(first, Err(StreamError::Fault(fault, Some(0))) if fault.number() == 140 && fault.file() == 0)
+    );
     let unread = ends_on(rt.alloc(), &LOG, &mut Full { failures: 0 })?;
     assert!(rt; matches!(unread, Err(StreamError::Unread(1))));
     Ok(())
