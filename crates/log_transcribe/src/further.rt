@@ -34,7 +34,7 @@ use log_laws::{
 use log_places::{PlaceError, PlaceFault, list_of};
 use printing::Out;
 use source_feed::FeedFault;
-use std::alloc::Global;
+use std::alloc::{AllocError, Global};
 
 /// How many bytes a feed may have, and one more.
 const LIMIT: usize = 1 << 31;
@@ -308,12 +308,21 @@ pub fn transcribe_behind(
     // With these bytes the feed has its groups, and behind them just those of the transactions that it didn't have.
     ensures right { IfOk result (λ more. IsSource (source_value source.entry) → IsFeedBehind (source_value source.entry) feed.now (map (λ log. log.now) logs.now) more.items) }
 {
-    let feed = Vec::from_slice(alloc, feed)?;
+    let feed = copied(alloc, feed)?;
     let mut spool = Spool::new(alloc);
     match transcribe_behind_to(alloc, source, feed, &LentLogs { logs }, &mut spool) {
         Ok(()) => Ok(spool.into_bytes()),
         Err(error) => Err(of_stream(error)),
     }
+}
+
+/// A copy of bytes.
+fn copied(alloc: Global, bytes: &[u8]) -> Result<Vec<u8>, AllocError>
+    ensures { IfOk result (λ copy. copy.items ≡ bytes.now) }
+{
+    let mut copy = Vec::new(alloc);
+    copy.extend_from_slice(bytes)?;
+    Ok(copy)
 }
 
 /// What is wrong with a feed, or with logs that are in memory.

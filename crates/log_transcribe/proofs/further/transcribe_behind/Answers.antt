@@ -24,8 +24,8 @@ returns-in-Ok-clause-right c =
     (feed_is_kept (λ logs. behind_of_logs (source_value c.args.source) c.args.feed.now logs) (λ logs more. IsSource (source_value c.args.source) → IsFeedBehind (source_value c.args.source) c.args.feed.now logs more) (bytes_of c.args.logs.now) (length c.args.logs.now)
     c.new-spool.result c.transcribe_behind_to.new.out c.into_bytes.result.items (many_of c.args.logs.now) c.new-spool.ensures c.into_bytes.ensures (rw c.in_ok-feed.ensures at c.in-Ok.ensures)).1
 
-pub returns-clause-exact : goal.returns-clause-exact
-returns-clause-exact c =
+pub returns-in-Err-clause-exact : goal.returns-in-Err-clause-exact
+returns-in-Err-clause-exact c =
     rw c.of_stream.ensures
     (behind_ended (λ logs. behind_of_logs (source_value c.args.source) c.args.feed.now logs) (λ logs more. IsSource (source_value c.args.source) → IsFeedBehind (source_value c.args.source) c.args.feed.now logs more) (bytes_of c.args.logs.now) (length c.args.logs.now) c.in-Err.error
     c.new-spool.result c.transcribe_behind_to.new.out (many_of c.args.logs.now)

@@ -24,8 +24,8 @@ returns-in-Ok-clause-right c =
     (feed_is_kept (λ logs. of_logs (feed_of_logs (source_value c.args.source) logs)) (λ logs feed. IsSource (source_value c.args.source) → IsFeedOfLogs (source_value c.args.source) logs feed) (bytes_of c.args.logs.now) (length c.args.logs.now)
     c.new-spool.result c.transcribe_to.new.out c.into_bytes.result.items (many_of c.args.logs.now) c.new-spool.ensures c.into_bytes.ensures c.in-Ok.ensures).1
 
-pub returns-clause-exact : goal.returns-clause-exact
-returns-clause-exact c =
+pub returns-in-Err-clause-exact : goal.returns-in-Err-clause-exact
+returns-in-Err-clause-exact c =
     rw c.of_stream.ensures
     (logs_ended (source_value c.args.source) (λ logs feed. IsSource (source_value c.args.source) → IsFeedOfLogs (source_value c.args.source) logs feed) (bytes_of c.args.logs.now) (length c.args.logs.now) c.in-Err.error
     c.new-spool.result c.transcribe_to.new.out (many_of c.args.logs.now) c.in-Err.ensures)
