@@ -1,13 +1,13 @@
 -- Messages on their way to a writer: parts one behind another, and files one behind another.
-use Rattle.std.proofs.Common.{◌≡◌, ℕ, suc, ◌+◌, ◌-◌, ◌^◌, ◌<◌, ◌≤◌, min, Bool, true, false, List, [], ◌∷◌, ◌++◌, length, Option, None, Some, Result, Ok, Err, refl, sym, ap, subst, ◌∙◌, arith, append_assoc, append-nil}
+use Rattle.std.proofs.Common.{◌≡◌, ℕ, ◌+◌, ◌<◌, ◌≤◌, Bool, true, false, List, [], ◌∷◌, ◌++◌, length, Option, None, Some, Result, Ok, Err, refl, sym, ap, subst, ◌∙◌, arith, append_assoc, append-nil}
 use Rattle.std.proofs.lemmas.List.{length-append}
-use Rattle.list_laws.specs.Outcome.{◌>>=◌, Refuses, GivesUnless}
-use Rattle.printing.specs.Printing.{Written, IsWritten, BreaksOff}
+use Rattle.list_laws.specs.Outcome.{◌>>=◌, Refuses}
+use Rattle.printing.specs.Printing.{Written, BreaksOff}
 use Rattle.printing.proofs.PrintLaws.{written_nothing, written_more, then_breaks}
 use Rattle.vevent.specs.EventValue.{EventValue}
 use Rattle.log_feed.specs.declared.table.Stage.{Stage}
 use Rattle.log_laws.specs.Source.{SourceTables}
-use Rattle.log_laws.specs.Transcript.{Far, Messages, last_told, written}
+use Rattle.log_laws.specs.Transcript.{Far, last_told, written}
 use Rattle.log_laws.specs.declared.fault.TellFault.{TellFault}
 use Rattle.log_transcribe.specs.declared.fault.LogsFault.{LogsFault}
 use Rattle.log_transcribe.specs.declared.fault.LogsFault.TheVariants.{Tell}
@@ -21,7 +21,7 @@ use Rattle.log_transcribe.specs.Fault.{meant, of_tell}
 use Rattle.log_transcribe.specs.Files.{GaveFrom}
 use Rattle.log_transcribe.specs.Transcript.{log_told, logs_told, nothing_told, feed_told}
 use Rattle.log_transcribe.specs.Private.Bytes.{with_messages, last_with, bytes_told}
-use Rattle.log_transcribe.specs.Private.Sends.{Sending, counted, WentOut, Sends, Going, GoesOn, done, Stops, nothing, Puts, PutsOne, IsOfLogs, files_told, PutsFile, AreTold, AreRefused, AreUnread, PutsFiles, PutsEnd, AreWritten, TellsAll}
+use Rattle.log_transcribe.specs.Private.Sends.{Sending, counted, WentOut, Sends, Going, GoesOn, done, Stops, PutsOne, IsOfLogs, files_told, PutsFile, AreTold, PutsFiles, PutsEnd, AreWritten, TellsAll}
 use Rattle.log_transcribe.specs.Private.Opens.{HasFirst, logs_from, place_behind}
 use Rattle.log_transcribe.proofs.WritingLaws.{same_told, put_both, feed_is}
 use Rattle.log_transcribe.proofs.GoingLaws.{end_is}

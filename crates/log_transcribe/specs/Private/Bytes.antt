@@ -15,7 +15,7 @@ use Rattle.log_feed.specs.declared.fault.ChangeError.TheVariants as change_error
 use Rattle.log_laws.specs.declared.fault.TellFault.{TellFault}
 use Rattle.log_laws.specs.declared.fault.TellFault.TheVariants.{Change}
 use Rattle.log_laws.specs.Source.{SourceTables}
-use Rattle.log_laws.specs.Transcript.{Far, Messages, place_told, written}
+use Rattle.log_laws.specs.Transcript.{Far, place_told, written}
 use Rattle.log_transcribe.specs.declared.fault.LogsFault.TheVariants.{Course, Tell}
 use Rattle.log_transcribe.specs.declared.fault.LogsError.{LogsError}
 use Rattle.log_transcribe.specs.declared.fault.LogsError.TheVariants.{Memory, Fault}

@@ -1,9 +1,8 @@
 -- Messages on their way to a writer, file by file.
-use Rattle.std.specs.Prelude.{◌≡◌, ◌<◌, ◌≤◌, ℕ, ◌+◌, ◌-◌, ◌^◌, min, Bool, true, false, List, [], ◌∷◌, ◌++◌, length, Option, None, Some, Result, Ok, Err}
+use Rattle.std.specs.Prelude.{◌≡◌, ◌<◌, ◌≤◌, ℕ, ◌+◌, ◌-◌, ◌^◌, min, Bool, true, false, List, [], ◌∷◌, ◌++◌, length, Option, Result, Ok, Err}
 use Rattle.list_laws.specs.Outcome.{◌>>=◌}
 use Rattle.printing.specs.Printing.{Written, IsWritten, BreaksOff}
 use Rattle.vevent.specs.EventValue.{EventValue}
-use Rattle.log_laws.specs.Transcript.{written as bytes_of}
 use Rattle.log_transcribe.specs.declared.fault.LogsFault.{LogsFault}
 use Rattle.log_transcribe.specs.declared.fault.LogsError.{LogsError}
 use Rattle.log_transcribe.specs.declared.fault.LogsError.TheVariants as logs_error

@@ -1,4 +1,4 @@
-use Rattle.std.proofs.Common.{List, length, Ok, subst, ◌∙◌}
+use Rattle.std.proofs.Common.{length, Ok, subst, ◌∙◌}
 use Rattle.log_transcribe.specs.Transcript.{course_told}
 use Rattle.log_laws.specs.Source.{SourceTables}
 use Rattle.log_transcribe.specs.Private.Sends.{PutsOne, sending}
