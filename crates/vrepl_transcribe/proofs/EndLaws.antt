@@ -1,6 +1,8 @@
 -- What the steps of `transcribe` answer, put together.
-use Rattle.std.proofs.Common.{◌≡◌, ℕ, List, [], ◌++◌, map, option_map, Option, Some, None, IfSome, Result, Ok, Err, refl, sym, ap, subst, ◌∙◌}
+use Rattle.std.proofs.Common.{◌≡◌, ℕ, List, [], ◌++◌, map, option_map, Option, Some, None, Result, Ok, Err, refl, sym, ap, subst, ◌∙◌}
 use Rattle.filter_rule.specs.Faults as plans
+use Rattle.filter_rule.specs.declared.fault.PlanFault.{PlanFault}
+use Rattle.filter_rule.specs.declared.fault.PlanFault.TheVariants as plan_fault
 use Rattle.filter_rule.specs.PlanTable.{name_of_table}
 use Rattle.filter_rule.specs.PlanValue.{PlanValue}
 use Rattle.filter_rule.specs.Reading.{plans_of}
@@ -18,7 +20,7 @@ use Rattle.log_transcribe.specs.Transcript.{feed_of_logs}
 use Rattle.printing.specs.Printing.{Written, IsWritten, BreaksOff}
 use Rattle.vrepl_transcribe.specs.Source.{first_unplain, plan_of_shard, source_in}
 use Rattle.vrepl_transcribe.specs.Transcribed as why
-use Rattle.vrepl_transcribe.specs.Transcribed.{AskedValue, WhyNot, unread_workflow, no_stream, unplain_name, unread_feed, unread_logs, of_behind, feed_from, feed_under, feed_asked, asked_of, names_of, IsMade, IsMadeOf, IsNotMade, WritesAll, MakesAll, EndsSo}
+use Rattle.vrepl_transcribe.specs.Transcribed.{AskedValue, WhyNot, unread_workflow, no_stream, unplain_name, unread_feed, unread_logs, of_behind, feed_from, feed_under, feed_asked, asked_of, names_of, IsMade, IsMadeOf, IsNotMade, IsWhy, WritesAll, MakesAll, EndsSo}
 use Rattle.vrepl_transcribe.specs.Private.Steps.{AnswersNames, EndsUnder, IsNotUnder, IsWhyOf, PrintsAll, made_from}
 use Rattle.log_transcribe.proofs.SpoolLaws.{spooled}
 use Rattle.vrepl_transcribe.specs.declared.transcribing.TranscribeEnd.{TranscribeEnd}
@@ -116,9 +118,18 @@ module _ (inputs : TranscribeInputs) (Gives : ℕ → List ℕ → Type 0) (many
   under_plan : (logs : List (List ℕ)) (all : List PlanValue) (plan : PlanValue) → plans_of inputs.workflow.items ≡ Ok all → plan_of_shard all inputs.shard.now ≡ Some plan → feed_asked (asked_of inputs logs) ≡ feed_under (asked_of inputs logs) plan
   under_plan logs all plan read of = rw (read, of) refl
 
-  pub workflow_stops : (o : Option plans.Fault) → IfSome o (λ f. plans_of inputs.workflow.items ≡ Err f) → IfSome o (λ f. IsNotMade inputs Gives many (unread_workflow f))
-  workflow_stops None e = tt
-  workflow_stops (Some f) e = record { logs = []; gave = tt; is = λ others both. rw e refl }
+  not_read : (fault : plans.Fault) → plans_of inputs.workflow.items ≡ Err fault → IsNotMade inputs Gives many (unread_workflow fault)
+  not_read fault e = record { logs = []; gave = tt; is = λ others both. rw e refl }
+
+  pub workflow_fails : (fault : PlanFault) → plans.Fails fault (plans_of inputs.workflow.items) → IsWhy inputs Gives many (Workflow fault)
+  workflow_fails plan_fault.Memory e = tt
+  workflow_fails plan_fault.Json e = not_read _ e
+  workflow_fails plan_fault.Shape e = not_read _ e
+  workflow_fails plan_fault.Limit e = not_read _ e
+  workflow_fails (plan_fault.NoSuchColumn table column) e = not_read _ e
+  workflow_fails (plan_fault.KeyType table column) e = not_read _ e
+  workflow_fails (plan_fault.BadRule stream rule) e = not_read _ e
+  workflow_fails (plan_fault.ColumnsDiffer table) e = not_read _ e
 
   pub stream_stops : (all : List PlanValue) → plans_of inputs.workflow.items ≡ Ok all → plan_of_shard all inputs.shard.now ≡ None → IsNotMade inputs Gives many no_stream
   stream_stops all read of = record { logs = []; gave = tt; is = λ others both. rw (read, of) refl }
@@ -150,13 +161,13 @@ module _ (inputs : TranscribeInputs) (Gives : ℕ → List ℕ → Type 0) (many
   made_of bytes old new fresh kept w = record { logs = w.logs; gave = w.gave; all = w.all; feed = w.feed; made = w.made; right = w.right; done = spooled old new w.feed bytes fresh kept w.done }
 
   pub unmade_of : (why : Untranscribed) (old new : Written) → (why ≡ Unwritten → ⊥) → WritesAll inputs Gives many (Err why) old new → MakesAll inputs Gives many (Err why)
-  unmade_of Unwritten old new no w = absurd (no refl)
-  unmade_of Memory old new no w = tt
-  unmade_of (Unread file) old new no w = w
-  unmade_of (Workflow fault) old new no w = w
-  unmade_of NoStream old new no w = w
-  unmade_of (Feed fault) old new no w = w
-  unmade_of (Line line) old new no w = w
+  unmade_of Unwritten old new other w = absurd (other refl)
+  unmade_of Memory old new other w = tt
+  unmade_of (Unread file) old new other w = w
+  unmade_of (Workflow fault) old new other w = w
+  unmade_of NoStream old new other w = w
+  unmade_of (Feed fault) old new other w = w
+  unmade_of (Line line) old new other w = w
 
   -- ---- how it is printed
 
