@@ -205,8 +205,8 @@ module _ (s : SourceTables) (feed : List ℕ) (Gives : ℕ → List ℕ → Type
           logs = logs;
           gave = gave_all log w.logs gave w.gave;
           is = refused_so log w.logs (behind_fault.Logs (TooLong many)) first (omega (arith, w.all))
-          (λ others both. subst (λ (o : List (List ℕ)). behind_of_logs s feed (logs_from log (w.logs ++ o)) ≡ Err (behind_fault.Logs (TooLong many))) (sym (no_others w.logs others (place_behind log) many w.all both))
-          (subst (λ (ls : List (List ℕ)). behind_of_logs s feed (logs_from log ls) ≡ Err (behind_fault.Logs (TooLong many))) (sym (append-nil w.logs)) (faulty w.logs (TooLong many) made)));
+              (λ others both. subst (λ (o : List (List ℕ)). behind_of_logs s feed (logs_from log (w.logs ++ o)) ≡ Err (behind_fault.Logs (TooLong many))) (sym (no_others w.logs others (place_behind log) many w.all both))
+              (subst (λ (ls : List (List ℕ)). behind_of_logs s feed (logs_from log ls) ≡ Err (behind_fault.Logs (TooLong many))) (sym (append-nil w.logs)) (faulty w.logs (TooLong many) made)));
         }
 
     pub behind_stopped : (error : StreamError) (old new : Written) → Tells (Err error) old new → EndsBehind (Err error) old new
@@ -218,7 +218,7 @@ module _ (s : SourceTables) (feed : List ℕ) (Gives : ℕ → List ℕ → Type
       logs = logs_from log w.logs;
       gave = gave_all log w.logs gave w.gave;
       is = refused_so log w.logs (behind_fault.Logs fault) first w.within
-      (λ others both. faulty (w.logs ++ others) fault (unmade o.had (along_of o.reached o.first o.had) (logs_from log (w.logs ++ others)) fault (sym (told_is (logs_from log (w.logs ++ others))) ∙ w.is others both)));
+          (λ others both. faulty (w.logs ++ others) fault (unmade o.had (along_of o.reached o.first o.had) (logs_from log (w.logs ++ others)) fault (sym (told_is (logs_from log (w.logs ++ others))) ∙ w.is others both)));
     }
 
 -- ---- what is wrong with the feed, or where the first log begins

@@ -213,7 +213,16 @@ fn send_first<L: LogFiles, W: Out>(
     ensures had { sequel.new.had ≡ sequel.old.had }
 {
     let waiting = Vec::new(alloc);
-    sequel.send_bytes(alloc, out, outgoing, table, files, 0, waiting, log.as_slice())
+    sequel.send_bytes(
+        alloc,
+        out,
+        outgoing,
+        table,
+        files,
+        0,
+        waiting,
+        log.as_slice(),
+    )
 }
 
 /// What is told of files behind a feed, of any length, and how many bytes that is.

@@ -72,9 +72,7 @@ pub(crate) fn inside(bytes: &[u8], begin: usize, end: usize, error: LogsError) -
 {
     match error {
         LogsError::Memory => StreamError::Memory,
-        LogsError::Fault(fault) => {
-            StreamError::Fault(fault, place_of(bytes, begin, end, fault))
-        }
+        LogsError::Fault(fault) => { StreamError::Fault(fault, place_of(bytes, begin, end, fault)) }
     }
 }
 

@@ -11,7 +11,7 @@ pub returns-in-Err : goal.returns-in-Err
 returns-in-Err g c =
     files_stopped (λ logs. logs_told 0 (source_value c.args.source) [] logs (nothing_told (source_value c.args.source))) (λ logs. feed_told (source_value c.args.source) logs) (g.L.LogFiles.gives c.args.files.now) 0 (g.L.LogFiles.many c.args.files.now)
     (λ far. of_tell (g.L.LogFiles.many c.args.files.now) (last_told (source_value c.args.source) far)) (feed_part (source_value c.args.source) (g.L.LogFiles.many c.args.files.now)) c.send_files.new.self.far c.in-Err.error
-    (sending (g.W.Out.written c.args.out.now) c.new-outgoing.result) (sending (g.W.Out.written c.send_files.new.out) c.send_files.new.outgoing) 
+    (sending (g.W.Out.written c.args.out.now) c.new-outgoing.result) (sending (g.W.Out.written c.send_files.new.out) c.send_files.new.outgoing)
     (subst (λ (t : TranscriptValue). PutsFiles (λ logs. logs_told 0 t.source [] logs t.far) (g.L.LogFiles.gives c.args.files.now) 0 (g.L.LogFiles.many c.args.files.now) c.send_files.new.self.far (Err c.in-Err.error) (sending (g.W.Out.written c.args.out.now) c.new-outgoing.result) (sending (g.W.Out.written c.send_files.new.out) c.send_files.new.outgoing))
     c.in_ok-transcript.ensures c.in-Err.ensures.told)
 

@@ -20,7 +20,7 @@ loop-more-preserved g c = (
       (sending (g.W.Out.written c.args.out.now) c.args.outgoing.now) (sending (g.W.Out.written c.loop-more.out) c.loop-more.outgoing) (sending (g.W.Out.written c.send_next.new.out) c.send_next.new.outgoing)
       c.if-not-more.false c.loop-more.invariant.0
       (subst (λ (h : List Stage). PutsOne (reading_behind c.args.file c.args.self.now.source h c.loop-more.groups.groups c.loop-more.self.along) (reading_behind c.args.file c.args.self.now.source h c.send_next.new.groups.groups c.send_next.new.self.along) c.send_next.new.self.along (length c.loop-more.groups.groups.items) (length c.send_next.new.groups.groups.items) (Ok c.in-Ok.more) (sending (g.W.Out.written c.loop-more.out) c.loop-more.outgoing) (sending (g.W.Out.written c.send_next.new.out) c.send_next.new.outgoing)) c.loop-more.invariant.2
-    (subst (λ (x : SourceTables). PutsOne (reading_behind c.args.file x c.loop-more.self.had c.loop-more.groups.groups c.loop-more.self.along) (reading_behind c.args.file x c.loop-more.self.had c.send_next.new.groups.groups c.send_next.new.self.along) c.send_next.new.self.along (length c.loop-more.groups.groups.items) (length c.send_next.new.groups.groups.items) (Ok c.in-Ok.more) (sending (g.W.Out.written c.loop-more.out) c.loop-more.outgoing) (sending (g.W.Out.written c.send_next.new.out) c.send_next.new.outgoing)) c.loop-more.invariant.1 c.in-Ok.ensures.told))).0,
+      (subst (λ (x : SourceTables). PutsOne (reading_behind c.args.file x c.loop-more.self.had c.loop-more.groups.groups c.loop-more.self.along) (reading_behind c.args.file x c.loop-more.self.had c.send_next.new.groups.groups c.send_next.new.self.along) c.send_next.new.self.along (length c.loop-more.groups.groups.items) (length c.send_next.new.groups.groups.items) (Ok c.in-Ok.more) (sending (g.W.Out.written c.loop-more.out) c.loop-more.outgoing) (sending (g.W.Out.written c.send_next.new.out) c.send_next.new.outgoing)) c.loop-more.invariant.1 c.in-Ok.ensures.told))).0,
   c.in-Ok.ensures.source ∙ c.loop-more.invariant.1,
   c.in-Ok.ensures.had ∙ c.loop-more.invariant.2,
   kept_waiting c.loop-more.groups c.send_next.new.groups c.in-Ok.more c.in-Ok.ensures.waiting ∙ c.loop-more.invariant.3,
