@@ -175,11 +175,11 @@ loop_done all rest less far left fewer false old now new is a b = goes_further a
 
 -- ---- a file, and what waits behind it
 
-pub kept_waiting : {E : Type 0} (old new : CourseValue) (more : Bool) → KeepsWaiting {E} old (Ok more) new → new.waiting ≡ old.waiting
+pub kept_waiting : {E : Type 0} (old new : CourseValue) (more : Bool) → KeepsWaiting {E = E} old (Ok more) new → new.waiting ≡ old.waiting
 kept_waiting old new true k = k
 kept_waiting old new false k = k.0
 
-pub end_waiting : {E : Type 0} (old new : CourseValue) (more : Bool) → more ≡ false → KeepsWaiting {E} old (Ok more) new → (new.groups.items ≡ []) × (new.groups.fault ≡ None)
+pub end_waiting : {E : Type 0} (old new : CourseValue) (more : Bool) → more ≡ false → KeepsWaiting {E = E} old (Ok more) new → (new.groups.items ≡ []) × (new.groups.fault ≡ None)
 end_waiting old new true is k = cc
 end_waiting old new false is k = (k.1, k.2)
 
@@ -263,12 +263,12 @@ no_logs_more (o ∷ others) from many all last = absurd (omega (arith, all, last
 unsettled : (file : ℕ) (waiting : List WaitingValue) → still_waits waiting ≡ false → none_waits file waiting ≡ Ok tt
 unsettled file waiting e = rw e refl
 
+settled_by : (file : ℕ) (b : Bool) → ◌≡◌ {A = Result (Unit {0}) LogsFault} (if b then Err (Course (file - 1) (Group StillPrepared)) else Ok tt) (Ok tt) → b ≡ false
+settled_by file true e = cc
+settled_by file false e = refl
+
 settles : (file : ℕ) (waiting : List WaitingValue) → none_waits file waiting ≡ Ok tt → still_waits waiting ≡ false
-settles file waiting e = by (still_waits waiting) e
-  where
-    by : (b : Bool) → (if b then Err (Course (file - 1) (Group StillPrepared)) else Ok tt) ≡ Ok tt → b ≡ false
-    by true e = cc
-    by false e = refl
+settles file waiting e = settled_by file (still_waits waiting) e
 
 module _ {A : Type 0} (told : ℕ → List WaitingValue → List ℕ → A → Result (Going A × List WaitingValue) LogsFault) (tells : Telling A) (are : AreTelling told tells) (Gives : ℕ → List ℕ → Type 0) where
   -- behind the last file nothing more is told
