@@ -175,13 +175,13 @@ loop_done all rest less far left fewer false old now new is a b = goes_further a
 
 -- ---- a file, and what waits behind it
 
-pub kept_waiting : {E : Type 0} (old new : CourseValue) (more : Bool) → KeepsWaiting {E = E} old (Ok more) new → new.waiting ≡ old.waiting
-kept_waiting old new true k = k
-kept_waiting old new false k = k.0
+pub kept_waiting : (E : Type 0) (old new : CourseValue) (more : Bool) → KeepsWaiting {E = E} old (Ok more) new → new.waiting ≡ old.waiting
+kept_waiting E old new true k = k
+kept_waiting E old new false k = k.0
 
-pub end_waiting : {E : Type 0} (old new : CourseValue) (more : Bool) → more ≡ false → KeepsWaiting {E = E} old (Ok more) new → (new.groups.items ≡ []) × (new.groups.fault ≡ None)
-end_waiting old new true is k = cc
-end_waiting old new false is k = (k.1, k.2)
+pub end_waiting : (E : Type 0) (old new : CourseValue) (more : Bool) → more ≡ false → KeepsWaiting {E = E} old (Ok more) new → (new.groups.items ≡ []) × (new.groups.fault ≡ None)
+end_waiting E old new true is k = cc
+end_waiting E old new false is k = (k.1, k.2)
 
 waiting_fault : {A : Type 0} (r : Result (Going A × List WaitingValue) LogsFault) (out : List ℕ) (fault : LogsFault) → with_waiting r out ≡ Err fault → r ≡ Err fault
 waiting_fault (Ok x) out fault e = cc

@@ -20,11 +20,11 @@ send_bytes-returns-then-next-count-clause-told g t c =
 
 pub send_bytes-returns-in-Ok-settle-clause-told : goal.send_bytes-returns-in-Ok-settle-clause-told
 send_bytes-returns-in-Ok-settle-clause-told g t c =
-    file_last (λ file waiting bytes a. log_behind file c.args.self.now.source c.args.self.now.had waiting bytes a) (λ at left logs along. logs_behind at c.args.self.now.source c.args.self.now.had left logs along) (behind_tell c.args.self.now.source c.args.self.now.had) (g.L.LogFiles.gives c.args.files.now) (λ end. map waiting_value end.waiting.items) c.in-Ok.end c.args.file (g.L.LogFiles.many c.args.files.now) (map waiting_value c.args.waiting.items) c.args.bytes.now c.args.self.now.along c.send_log.new.self.along (sending (g.W.Out.written c.args.out.now) c.args.outgoing.now) (sending (g.W.Out.written c.send_log.new.out) c.send_log.new.outgoing) (omega (arith, c.count.ensures, c.if-next-count.false)) c.in-Ok-settle.ensures c.in-Ok.ensures.told
+    file_last (λ file waiting bytes a. log_behind file c.args.self.now.source c.args.self.now.had waiting bytes a) (λ at left logs along. logs_behind at c.args.self.now.source c.args.self.now.had left logs along) (behind_tell c.args.self.now.source c.args.self.now.had) (g.L.LogFiles.gives c.args.files.now) (λ end. map waiting_value end.waiting.items) c.in-Ok.end c.args.file (g.L.LogFiles.many c.args.files.now) (map waiting_value c.args.waiting.items) c.args.bytes.now c.args.self.now.along c.send_log.new.self.along (sending (g.W.Out.written c.args.out.now) c.args.outgoing.now) (sending (g.W.Out.written c.send_log.new.out) c.send_log.new.outgoing) (omega (arith, c.count-count.ensures, c.if-next-count.false)) c.in-Ok-settle.ensures c.in-Ok.ensures.told
 
 pub send_bytes-returns-clause-told : goal.send_bytes-returns-clause-told
 send_bytes-returns-clause-told g t c =
-    file_waits (λ file waiting bytes a. log_behind file c.args.self.now.source c.args.self.now.had waiting bytes a) (λ at left logs along. logs_behind at c.args.self.now.source c.args.self.now.had left logs along) (behind_tell c.args.self.now.source c.args.self.now.had) (g.L.LogFiles.gives c.args.files.now) (λ end. map waiting_value end.waiting.items) c.in-Ok.end c.args.file (g.L.LogFiles.many c.args.files.now) (map waiting_value c.args.waiting.items) c.args.bytes.now c.args.self.now.along c.send_log.new.self.along c.send_log.new.self.along c.in-Err-settle.error (sending (g.W.Out.written c.args.out.now) c.args.outgoing.now) (sending (g.W.Out.written c.send_log.new.out) c.send_log.new.outgoing) (omega (arith, c.count.ensures, c.if-next-count.false)) c.requires c.in-Err-settle.ensures c.in-Ok.ensures.told
+    file_waits (λ file waiting bytes a. log_behind file c.args.self.now.source c.args.self.now.had waiting bytes a) (λ at left logs along. logs_behind at c.args.self.now.source c.args.self.now.had left logs along) (behind_tell c.args.self.now.source c.args.self.now.had) (g.L.LogFiles.gives c.args.files.now) (λ end. map waiting_value end.waiting.items) c.in-Ok.end c.args.file (g.L.LogFiles.many c.args.files.now) (map waiting_value c.args.waiting.items) c.args.bytes.now c.args.self.now.along c.send_log.new.self.along c.send_log.new.self.along c.in-Err-settle.error (sending (g.W.Out.written c.args.out.now) c.args.outgoing.now) (sending (g.W.Out.written c.send_log.new.out) c.send_log.new.outgoing) (omega (arith, c.count-count.ensures, c.if-next-count.false)) c.requires c.in-Err-settle.ensures c.in-Ok.ensures.told
 
 pub send_file-returns-in-Ok-clause-told : goal.send_file-returns-in-Ok-clause-told
 send_file-returns-in-Ok-clause-told g t c =
