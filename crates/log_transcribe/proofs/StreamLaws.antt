@@ -287,6 +287,10 @@ module _ {A : Type 0} (told : ℕ → List WaitingValue → List ℕ → A → R
     settled = record { before = λ less. refl; changes = refl };
   }
 
+  -- there is none
+  pub no_file : (many : ℕ) (far : A) (now : Sending) → many ≡ 0 → AreTold (λ others. tells 0 [] [] far) Gives 0 many far now now
+  no_file many far now none = record { logs = []; gave = tt; all = omega (arith, none); goes = ([], went_nothing now, ap (λ r. with_messages r now.waits) (done_there 0 [] far refl)) }
+
   -- one file is told
   file_goes : {X : Type 0} (view : X → List WaitingValue) (x : X) (file : ℕ) (waiting : List WaitingValue) (bytes : List ℕ) (far next : A) (old new : Sending) → PutsLog (told file waiting bytes far) view next (Ok x) old new
       → GoesTo (λ logs. tells file waiting (bytes ∷ logs) far) tells Gives (file + 1) (file + 1) (view x) next old new

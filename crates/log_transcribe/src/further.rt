@@ -11,7 +11,7 @@ ghost use Rattle.log_transcribe.specs.Further.{IsFeedBehind};
 ghost use Rattle.log_transcribe.specs.Streamed.{EndsSo};
 ghost use Rattle.log_transcribe.specs.Files.{log_bytes};
 ghost use Rattle.log_transcribe.specs.Private.Opens.{HasFirst, IsFirst, OpensBehind, logs_from, place_behind, stop_of};
-ghost use Rattle.log_transcribe.specs.Private.Sends.{IsOfLogs, PutsFiles, PutsSpan, TellsAll, sending};
+ghost use Rattle.log_transcribe.specs.Private.Sends.{IsOfLogs, PutsFiles, PutsSpan, TellsAll, behind_error_of, sending};
 
 use crate::fault::{BehindError, BehindFault, LogsError, LogsFault, StreamError};
 use crate::files::{LentLogs, LogBytes, LogFiles, ReadFault};
@@ -34,7 +34,7 @@ use log_laws::{
 use log_places::{PlaceError, PlaceFault, list_of};
 use printing::Out;
 use source_feed::FeedFault;
-use std::alloc::Global;
+use std::alloc::{AllocError, Global};
 
 /// How many bytes a feed may have, and one more.
 const LIMIT: usize = 1 << 31;
@@ -319,12 +319,30 @@ pub fn transcribe_behind(
     // With these bytes the feed has its groups, and behind them just those of the transactions that it didn't have.
     ensures right { IfOk result (λ more. IsSource (source_value source.entry) → IsFeedBehind (source_value source.entry) feed.now (map (λ log. log.now) logs.now) more.items) }
 {
-    let feed = Vec::from_slice(alloc, feed)?;
+    let feed = copied(alloc, feed)?;
     let mut spool = Spool::new(alloc);
     match transcribe_behind_to(alloc, source, feed, &LentLogs { logs }, &mut spool) {
         Ok(()) => Ok(spool.into_bytes()),
-        Err(StreamError::Fault(fault, _)) => Err(BehindError::Fault(BehindFault::Logs(fault))),
-        Err(StreamError::Feed(fault)) => Err(BehindError::Fault(BehindFault::Feed(fault))),
-        Err(_) => Err(BehindError::Memory),
+        Err(error) => Err(of_stream(error)),
+    }
+}
+
+/// A copy of bytes.
+fn copied(alloc: Global, bytes: &[u8]) -> Result<Vec<u8>, AllocError>
+    ensures { IfOk result (λ copy. copy.items ≡ bytes.now) }
+{
+    let mut copy = Vec::new(alloc);
+    copy.extend_from_slice(bytes)?;
+    Ok(copy)
+}
+
+/// What is wrong with a feed, or with logs that are in memory.
+fn of_stream(error: StreamError) -> BehindError
+    ensures { result ≡ behind_error_of error }
+{
+    match error {
+        StreamError::Fault(fault, _) => BehindError::Fault(BehindFault::Logs(fault)),
+        StreamError::Feed(fault) => BehindError::Fault(BehindFault::Feed(fault)),
+        _ => BehindError::Memory,
     }
 }

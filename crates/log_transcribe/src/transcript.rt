@@ -12,7 +12,7 @@ ghost use Rattle.log_transcribe.specs.Transcript.{source_value, course_told, log
 ghost use Rattle.log_transcribe.specs.Feed.{IsFeedOfLogs};
 ghost use Rattle.log_transcribe.specs.Streamed.{EndsSo};
 ghost use Rattle.log_transcribe.specs.Private.Bytes.{course_error_at, change_error_at, tell_error_at, with_messages, last_with, PutsNext, KeepsWaiting};
-ghost use Rattle.log_transcribe.specs.Private.Sends.{Puts, PutsEnd, PutsFiles, PutsLog, PutsOne, PutsSpan, Stills, TellsAll, sending};
+ghost use Rattle.log_transcribe.specs.Private.Sends.{Puts, PutsEnd, PutsFiles, PutsLog, PutsOne, PutsSpan, Stills, TellsAll, logs_error_of, sending};
 
 use crate::fault::{LogsError, LogsFault, StreamError, TellError};
 use crate::files::{LentLogs, LogFiles, ReadFault};
@@ -499,7 +499,16 @@ pub fn transcribe(
     let mut spool = Spool::new(alloc);
     match transcribe_to(alloc, source, &LentLogs { logs }, &mut spool) {
         Ok(()) => Ok(spool.into_bytes()),
-        Err(StreamError::Fault(fault, _)) => Err(LogsError::Fault(fault)),
-        Err(_) => Err(LogsError::Memory),
+        Err(error) => Err(of_stream(error)),
+    }
+}
+
+/// What is wrong with logs that are in memory.
+fn of_stream(error: StreamError) -> LogsError
+    ensures { result ≡ logs_error_of error }
+{
+    match error {
+        StreamError::Fault(fault, _) => LogsError::Fault(fault),
+        _ => LogsError::Memory,
     }
 }

@@ -10,6 +10,9 @@ use Rattle.log_transcribe.specs.declared.fault.LogsError.{LogsError}
 use Rattle.log_transcribe.specs.declared.fault.LogsError.TheVariants as logs_error
 use Rattle.log_transcribe.specs.declared.fault.StreamError.{StreamError}
 use Rattle.log_transcribe.specs.declared.fault.StreamError.TheVariants as stop
+use Rattle.log_transcribe.specs.declared.fault.BehindFault.TheVariants.{Feed, Logs}
+use Rattle.log_transcribe.specs.declared.fault.BehindError.{BehindError}
+use Rattle.log_transcribe.specs.declared.fault.BehindError.TheVariants as behind_error
 use Rattle.log_transcribe.specs.declared.outgoing.Outgoing.{Outgoing}
 use Rattle.log_transcribe.specs.Files.{GaveFrom}
 use Rattle.log_transcribe.specs.Private.Bytes.{with_messages, with_waiting, last_with, bytes_told}
@@ -75,6 +78,17 @@ PutsOne all rest far left fewer (Err error) old new = Stops all error old.writte
 abbrev pub IsOfLogs : LogsError → StreamError → Type 0
 IsOfLogs logs_error.Memory error = error ≡ stop.Memory
 IsOfLogs (logs_error.Fault fault) error = (byte : Option ℕ) × (error ≡ stop.Fault fault byte)
+
+-- a fault of the logs; any other error is want of memory there
+abbrev pub logs_error_of : StreamError → LogsError
+logs_error_of (stop.Fault fault byte) = logs_error.Fault fault
+logs_error_of error = logs_error.Memory
+
+-- the same, or a fault of the feed
+abbrev pub behind_error_of : StreamError → BehindError
+behind_error_of (stop.Fault fault byte) = behind_error.Fault (Logs fault)
+behind_error_of (stop.Feed fault) = behind_error.Fault (Feed fault)
+behind_error_of error = behind_error.Memory
 
 -- ---- files
 
