@@ -23,8 +23,8 @@ returns-in-Err-clause-told g c =
 pub loop-file-preserved : goal.loop-file-preserved
 loop-file-preserved g c = (
   over_more (λ file waiting bytes far. log_told file c.args.self.now.source waiting bytes far) (λ at left logs far. logs_told at c.args.self.now.source left logs far) (logs_tell c.args.self.now.source) (g.L.LogFiles.gives c.args.files.now) (λ logs. logs_told 0 c.args.self.now.source [] logs c.args.self.now.far) 0 c.loop-file.file (g.L.LogFiles.many c.args.files.now) c.loop-file.self.far c.send_file.new.self.far (Ok c.in-Ok.next) (sending (g.W.Out.written c.args.out.now) c.args.outgoing.now) (sending (g.W.Out.written c.loop-file.out) c.loop-file.outgoing) (sending (g.W.Out.written c.send_file.new.out) c.send_file.new.outgoing) (omega (arith, c.count.ensures, c.loop-file-test.true)) c.loop-file.invariant.0
-    (subst (λ (x : SourceTables). PutsSpan (λ logs. logs_told c.loop-file.file x [] logs c.loop-file.self.far) (λ at left logs far. logs_told at x left logs far) (g.L.LogFiles.gives c.args.files.now) c.loop-file.file (g.L.LogFiles.many c.args.files.now) c.send_file.new.self.far (Ok c.in-Ok.next) (sending (g.W.Out.written c.loop-file.out) c.loop-file.outgoing) (sending (g.W.Out.written c.send_file.new.out) c.send_file.new.outgoing)) c.loop-file.invariant.1
-    (subst (λ v. PutsSpan (λ logs. logs_told c.loop-file.file c.loop-file.self.source (map waiting_value v) logs c.loop-file.self.far) (λ at left logs far. logs_told at c.loop-file.self.source left logs far) (g.L.LogFiles.gives c.args.files.now) c.loop-file.file (g.L.LogFiles.many c.args.files.now) c.send_file.new.self.far (Ok c.in-Ok.next) (sending (g.W.Out.written c.loop-file.out) c.loop-file.outgoing) (sending (g.W.Out.written c.send_file.new.out) c.send_file.new.outgoing)) c.new-waiting.ensures.items c.in-Ok.ensures.told)),
+      (subst (λ (x : SourceTables). PutsSpan (λ logs. logs_told c.loop-file.file x [] logs c.loop-file.self.far) (λ at left logs far. logs_told at x left logs far) (g.L.LogFiles.gives c.args.files.now) c.loop-file.file (g.L.LogFiles.many c.args.files.now) c.send_file.new.self.far (Ok c.in-Ok.next) (sending (g.W.Out.written c.loop-file.out) c.loop-file.outgoing) (sending (g.W.Out.written c.send_file.new.out) c.send_file.new.outgoing)) c.loop-file.invariant.1
+      (subst (λ v. PutsSpan (λ logs. logs_told c.loop-file.file c.loop-file.self.source (map waiting_value v) logs c.loop-file.self.far) (λ at left logs far. logs_told at c.loop-file.self.source left logs far) (g.L.LogFiles.gives c.args.files.now) c.loop-file.file (g.L.LogFiles.many c.args.files.now) c.send_file.new.self.far (Ok c.in-Ok.next) (sending (g.W.Out.written c.loop-file.out) c.loop-file.outgoing) (sending (g.W.Out.written c.send_file.new.out) c.send_file.new.outgoing)) c.new-waiting.ensures.items c.in-Ok.ensures.told)),
   c.in-Ok.ensures.source ∙ c.loop-file.invariant.1,
   c.in-Ok.ensures.within,
 )
