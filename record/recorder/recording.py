@@ -33,7 +33,7 @@ LOOKS = 16
 """At each of so many transactions it is looked how far a recording is."""
 UNKNOWN = {*range(51, 58), 72, 148, 149, 151, 152, 153, 156, 159}
 """The numbers by which the program refuses what the recorder may know: tables that no workflow file has, memory, columns, types,
-statements, packed events, XA transactions over two files, and tables that no copy makes."""
+statements, packed events, XA transactions that no copy prepares, and tables that none makes."""
 MINUTE = 60
 """The seconds between two lines that say how far a recording is."""
 
