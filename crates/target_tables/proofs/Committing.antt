@@ -1,5 +1,5 @@
 -- Making the changes of a group one after another.
-use Rattle.std.proofs.Common.{◌≡◌, ℕ, ◌+◌, ◌-◌, ◌<◌, ◌≤◌, false, cond, List, [], ◌∷◌, ◌++◌, Option, Some, None, Ordering, length, take, get_or, refl, sym, ap, ◌∙◌, add_assoc, arith}
+use Rattle.std.proofs.Common.{◌≡◌, ℕ, ◌+◌, ◌-◌, ◌<◌, ◌≤◌, Bool, true, false, cond, List, [], ◌∷◌, ◌++◌, Option, Some, None, Ordering, length, take, get_or, refl, sym, ap, ◌∙◌, add_assoc, arith}
 use Rattle.std.proofs.lemmas.List.{take-take, take-set, take_more}
 use Rattle.std.specs.List.{swap_remove}
 use Rattle.std.proofs.lemmas.Cmp.{tied_back, tied_itself}
@@ -21,6 +21,18 @@ new_keys-push cmp entries [] x = omega arith
 new_keys-push cmp entries (y ∷ xs) x =
     ap (λ n. cond (is_new y.1 (value_at cmp entries y.0)) 1 0 + n) (new_keys-push cmp entries xs x)
     ∙ sym (add_assoc (cond (is_new y.1 (value_at cmp entries y.0)) 1 0) (new_keys cmp entries xs) (cond (is_new x.1 (value_at cmp entries x.0)) 1 0))
+
+bit_most : (b : Bool) → cond b 1 0 ≤ 1
+bit_most true = omega arith
+bit_most false = omega arith
+
+-- at most each change puts a row at a new key
+pub new_keys-most : {K R : Type 0} (cmp : K → K → Ordering) (entries : List (K × (ℕ × R))) (xs : List (K × Option R)) → new_keys cmp entries xs ≤ length xs
+new_keys-most cmp entries [] = omega arith
+new_keys-most cmp entries (x ∷ xs) =
+    let one : cond (is_new x.1 (value_at cmp entries x.0)) 1 0 ≤ 1 = bit_most (is_new x.1 (value_at cmp entries x.0)) in
+    let later : new_keys cmp entries xs ≤ length xs = new_keys-most cmp entries xs in
+    omega arith
 
 -- what stands before an element stays where the last one takes the element's place
 pub take_swapped : {X : Type 0} (xs : List X) (i : ℕ) (d : X) → i < length xs → take i (swap_remove xs i d) ≡ take i xs

@@ -3,7 +3,7 @@ use Rattle.std.proofs.Common.{◌≡◌, ℕ, ◌+◌, ◌-◌, ◌*◌, ◌<◌
 use Rattle.std.proofs.lemmas.Bool.{ne_eqb}
 use Rattle.std.proofs.lemmas.List.{take-append-drop, drop_more, length-take-le, length-drop, length-set, length-append}
 use Rattle.std.proofs.lemmas.List.Elements.{All-append, All-take, All-drop, All-cons, All-set}
-use Rattle.std.specs.List.{remove}
+use Rattle.std.specs.List.{insert, remove}
 use Rattle.target_tables.specs.Pages.{entries_of, page_at, excess, owed, room_of, split_in_two, IsFull, AreFull}
 use Rattle.target_tables.proofs.Placed.{set-parts, remove-parts}
 
@@ -50,6 +50,17 @@ module _ {X : Type 0} where
       let n : length (x ++ entries_of pages) ≡ length x + length (entries_of pages) = length-append x (entries_of pages) in
       ne_eqb (length (x ∷ pages)) 0 (λ e. absurd (omega arith)) ∙ sym (ne_eqb (length (x ++ entries_of pages)) 0 (λ e. absurd (omega arith)))
 
+  -- a page more, of so many entries
+  pub full_with : (pages : List (List X)) (i : ℕ) (q : List X) → IsFull q → AreFull pages → AreFull (insert pages i q)
+  full_with pages i q limits full = All-append IsFull (take i pages) (q ∷ drop i pages) (All-take IsFull i pages full) (All-cons IsFull q (drop i pages) limits (All-drop IsFull i pages full))
+
+  -- the room that spare pages give beside so many pages, whatever these have
+  pub room_beside : (pages : List (List X)) → AreFull pages → (s count result : ℕ) → ((owed : ℕ) → owed ≤ 64 * (length pages + 1) → count ≤ result + (63 * result + 63 - owed)) → result ≤ s → count ≤ room_of pages s
+  room_beside pages full s count result h enough =
+      let most : owed pages ≤ 64 * (length pages + 1) = owed_most pages full in
+      let n : count ≤ result + (63 * result + 63 - owed pages) = h (owed pages) most in
+      omega arith
+
   module _ (pages : List (List X)) (i : ℕ) (inside : i < length pages) where
     excess_parts : excess pages ≡ excess (take i pages) + (length (page_at pages i) - 64 + excess (drop (i + 1) pages))
     excess_parts =
@@ -92,47 +103,47 @@ module _ {X : Type 0} where
     pub full_removed : AreFull pages → AreFull (remove pages i)
     full_removed full = All-append IsFull (take i pages) (drop (suc i) pages) (All-take IsFull i pages full) (All-drop IsFull (suc i) pages full)
 
-    module _ (size : length (page_at pages i) ≡ 128) where
+    module _ (size : length (page_at pages i) ≡ 128) (n : ℕ) (some : 0 < n) (less : n < 128) where
       abbrev lower : List X
-      lower = take 64 (page_at pages i)
+      lower = take n (page_at pages i)
 
       abbrev upper : List X
-      upper = drop 64 (page_at pages i)
+      upper = drop n (page_at pages i)
 
-      pub lower_size : length lower ≡ 64
-      lower_size = length-take-le 64 (page_at pages i) (omega arith)
+      pub lower_size : length lower ≡ n
+      lower_size = length-take-le n (page_at pages i) (omega arith)
 
-      pub upper_size : length upper ≡ 64
-      upper_size = let n : length upper ≡ length (page_at pages i) - 64 = length-drop 64 (page_at pages i) in omega arith
+      pub upper_size : length upper + n ≡ 128
+      upper_size = let d : length upper ≡ length (page_at pages i) - n = length-drop n (page_at pages i) in omega arith
 
-      pub full_split : AreFull pages → AreFull (split_in_two pages i)
+      pub full_split : AreFull pages → AreFull (split_in_two pages i n)
       full_split full =
-          let l : length lower ≡ 64 = lower_size in
-          let u : length upper ≡ 64 = upper_size in
+          let l : length lower ≡ n = lower_size in
+          let u : length upper + n ≡ 128 = upper_size in
           let s : AreFull (set pages i lower) = All-set IsFull pages i lower (record { least = omega arith; most = omega arith }) full in
           All-append IsFull (take (i + 1) (set pages i lower)) (upper ∷ drop (i + 1) (set pages i lower)) (All-take IsFull (i + 1) (set pages i lower) s)
           (All-cons IsFull upper (drop (i + 1) (set pages i lower)) (record { least = omega arith; most = omega arith }) (All-drop IsFull (i + 1) (set pages i lower) s))
 
-      pub length_split : length (split_in_two pages i) ≡ length pages + 1
+      pub length_split : length (split_in_two pages i n) ≡ length pages + 1
       length_split =
-          let n : length (set pages i lower) ≡ length pages = length-set pages i lower in
-          let a : length (split_in_two pages i) ≡ length (take (i + 1) (set pages i lower)) + length (upper ∷ drop (i + 1) (set pages i lower)) =
+          let m : length (set pages i lower) ≡ length pages = length-set pages i lower in
+          let a : length (split_in_two pages i n) ≡ length (take (i + 1) (set pages i lower)) + length (upper ∷ drop (i + 1) (set pages i lower)) =
           length-append (take (i + 1) (set pages i lower)) (upper ∷ drop (i + 1) (set pages i lower)) in
           let t : length (take (i + 1) (set pages i lower)) ≡ i + 1 = length-take-le (i + 1) (set pages i lower) (omega arith) in
           let d : length (drop (i + 1) (set pages i lower)) ≡ length (set pages i lower) - (i + 1) = length-drop (i + 1) (set pages i lower) in
           omega arith
 
-      -- split pages owe 64 places less
-      pub owed_split : owed (split_in_two pages i) + 64 ≡ owed pages
-      owed_split =
-          let l : length lower ≡ 64 = lower_size in
-          let u : length upper ≡ 64 = upper_size in
-          let n : length (split_in_two pages i) ≡ length pages + 1 = length_split in
-          let k : owed (split_in_two pages i) ≡ excess (split_in_two pages i) = owed_is (split_in_two pages i) (omega arith) in
+      -- pages split in halves owe 64 places less
+      pub owed_split : n ≡ 64 → owed (split_in_two pages i n) + 64 ≡ owed pages
+      owed_split half =
+          let l : length lower ≡ n = lower_size in
+          let u : length upper + n ≡ 128 = upper_size in
+          let c : length (split_in_two pages i n) ≡ length pages + 1 = length_split in
+          let k : owed (split_in_two pages i n) ≡ excess (split_in_two pages i n) = owed_is (split_in_two pages i n) (omega arith) in
           let m : length (set pages i lower) ≡ length pages = length-set pages i lower in
           let h : owed (set pages i lower) ≡ excess (set pages i lower) = owed_is (set pages i lower) (omega arith) in
           let e : owed (set pages i lower) + (length (page_at pages i) - 64) ≡ owed pages + (length lower - 64) = owed_set lower in
-          let a : excess (split_in_two pages i) ≡ excess (take (i + 1) (set pages i lower)) + (length upper - 64 + excess (drop (i + 1) (set pages i lower))) =
+          let a : excess (split_in_two pages i n) ≡ excess (take (i + 1) (set pages i lower)) + (length upper - 64 + excess (drop (i + 1) (set pages i lower))) =
           excess-append (take (i + 1) (set pages i lower)) (upper ∷ drop (i + 1) (set pages i lower)) in
           let b : excess (set pages i lower) ≡ excess (take (i + 1) (set pages i lower)) + excess (drop (i + 1) (set pages i lower)) =
           ap (λ (l : List (List X)). excess l) (sym (take-append-drop (i + 1) (set pages i lower))) ∙ excess-append (take (i + 1) (set pages i lower)) (drop (i + 1) (set pages i lower)) in

@@ -60,9 +60,9 @@ module _ {X : Type 0} where
   abbrev pub room_of : List (List X) → ℕ → ℕ
   room_of pages spares = spares + (63 * spares + 63 - owed pages)
 
-  -- page i split in two of 64
-  abbrev pub split_in_two : List (List X) → ℕ → List (List X)
-  split_in_two pages i = insert (set pages i (take 64 (page_at pages i))) (i + 1) (drop 64 (page_at pages i))
+  -- page i split in two, of which the first has its first n entries
+  abbrev pub split_in_two : List (List X) → ℕ → ℕ → List (List X)
+  split_in_two pages i n = insert (set pages i (take n (page_at pages i))) (i + 1) (drop n (page_at pages i))
 
 module _ {K V : Type 0} (cmp : K → K → Ordering) where
   -- a page's first key is greater than k

@@ -1,31 +1,104 @@
 //! Changes of rising entries.
 
-ghost use Rattle.std.specs.Prelude.{◌≡◌, ℕ, ◌+◌, ◌<◌, ◌≤◌, [], ◌∷◌, ◌++◌, Some, None, length, take, vec_len, if◌then◌else◌};
+ghost use Rattle.std.specs.Prelude.{◌≡◌, ℕ, ◌+◌, ◌-◌, ◌^◌, ◌<◌, ◌≤◌, List, [], ◌∷◌, ◌++◌, Some, None, IsTrue, length, take, vec_len, if◌then◌else◌};
 ghost use Rattle.std.specs.List.{insert};
 ghost use Rattle.std.specs.Ordering.{flip_args};
 ghost use Rattle.std.specs.Vec.{vec_capacity};
 ghost use Rattle.target_tables.specs.Contents.{value_at};
-ghost use Rattle.target_tables.specs.Pages.{entries_of, page_at, flat, room_of};
+ghost use Rattle.target_tables.specs.Pages.{entries_of, page_at, flat, room_of, AreFull};
 ghost use Rattle.target_tables.specs.Rising.{IsRising};
 ghost use Rattle.target_tables.specs.Private.Runs.{Leads};
 ghost use Rattle.target_tables.specs.Touches.{change_at, is_new, new_keys, IsTouched, IsChanged};
 
 use crate::drift::{Drift, staged_at};
 use crate::hints::spot_by;
-use crate::page::{FULL, HALF};
+use crate::page::{FULL, HALF, Page};
 use crate::pages::Pages;
 use crate::runs::{begins_run, is_worth, page_with_places, share_page};
 use crate::spots::{Spot, behind, entry_at};
 
-/// Puts an entry with a new key in at its place, and tells the place behind it. A full page is split in
-/// two of 64 first, and the entry goes into the second if its key is greater than the first's last. Takes no
-/// memory.
-fn put_new<K: Drop, R: Drop>(pages: &mut Pages<K, R>, spot: Spot, entry: (K, (u8, R))) -> Spot
+/// An entry at this place is put behind all others.
+fn is_last<K, R>(pages: &[Page<K, R>], spot: Spot) -> bool {
+    spot.place == FULL && spot.page.wrapping_add(1) == pages.len()
+}
+
+/// A full page may be split at this place: an entry is put there that goes on a run of rising keys, or behind all
+/// others, and the pages that lie ready suffice for a page more and then for so many new keys, whichever they are.
+fn can_go_on<K, R>(pages: &Pages<K, R>, spot: Spot, runs: bool, left: usize) -> bool
+    ensures some { IsTrue result → 0 < spot.place }
+    ensures spare { IsTrue result → 0 < pages.now.spares }
+    ensures room { IsTrue result → (after : List (List (K × (ℕ × R)))) → AreFull after → length after ≡ length pages.now.pages + 1
+        → left ≤ room_of after (pages.now.spares - 1) }
+{
+    if spot.place == 0 {
+        return false;
+    }
+    if !runs && !is_last(pages.as_slice(), spot) {
+        return false;
+    }
+    pages.can_spare(left)
+}
+
+/// Puts an entry into a full page at its place, and tells the place behind it. What lies behind the place is moved
+/// into a page of its own; where nothing does, the entry is the first of a new page. Takes no memory.
+fn put_on<K: Drop, R: Drop>(pages: &mut Pages<K, R>, spot: Spot, entry: (K, (u8, R))) -> Spot
+    requires inside { spot.page < length pages.old.pages }
+    requires full { length (page_at pages.old.pages spot.page) ≡ 128 }
+    requires some { 0 < spot.place }
+    requires within { spot.place ≤ 128 }
+    requires spare { 0 < pages.old.spares }
+    ensures entries { entries_of pages.new.pages ≡ insert (entries_of pages.old.pages) (flat pages.old.pages spot.page spot.place) entry }
+    ensures full { AreFull pages.new.pages }
+    ensures count { length pages.new.pages ≡ length pages.old.pages + 1 }
+    ensures spares { pages.new.spares + 1 ≡ pages.old.spares }
+{
+    let Spot { page, place } = spot;
+    if place == FULL {
+        pages.begin(page, entry);
+        return behind(page.wrapping_add(1), 0);
+    }
+    pages.split(page, place);
+    pages.put_in(page, place, entry);
+    behind(page, place)
+}
+
+/// Puts an entry into a full page at its place, and tells the place behind it. The page is split in two of 64 first,
+/// and the entry goes into the second if its key is greater than the first's last. Takes no memory.
+fn put_in_half<K: Drop, R: Drop>(pages: &mut Pages<K, R>, spot: Spot, entry: (K, (u8, R))) -> Spot
+    requires inside { spot.page < length pages.old.pages }
+    requires full { length (page_at pages.old.pages spot.page) ≡ 128 }
+    requires within { spot.place ≤ 128 }
+    requires few { length pages.old.pages ≤ 2 ^ 56 }
+    requires spare { 0 < pages.old.spares }
+    ensures entries { entries_of pages.new.pages ≡ insert (entries_of pages.old.pages) (flat pages.old.pages spot.page spot.place) entry }
+    ensures room { (n : ℕ) → n + 1 ≤ room_of pages.old.pages pages.old.spares → n ≤ room_of pages.new.pages pages.new.spares }
+{
+    let Spot { page, place } = spot;
+    pages.split(page, HALF);
+    if place < HALF {
+        pages.put_in(page, place, entry);
+        return behind(page, place);
+    }
+    pages.put_in(page + 1, place - HALF, entry);
+    behind(page + 1, place - HALF)
+}
+
+/// Puts an entry with a new key in at its place, after which so many more may come, and tells the place behind it. A
+/// full page is split in halves first. But where the entry goes on a run of rising keys, or comes last of all, the page
+/// is split at its place, so that rising keys leave full pages behind, if the pages that lie ready suffice for that.
+/// Takes no memory.
+fn put_new<K: Drop, R: Drop>(
+    pages: &mut Pages<K, R>,
+    spot: Spot,
+    entry: (K, (u8, R)),
+    runs: bool,
+    left: usize,
+) -> Spot
     requires inside { 0 < length pages.old.pages → spot.page < length pages.old.pages }
     requires within { spot.place ≤ length (page_at pages.old.pages spot.page) }
     requires room { 1 ≤ room_of pages.old.pages pages.old.spares }
     ensures entries { entries_of pages.new.pages ≡ insert (entries_of pages.old.pages) (flat pages.old.pages spot.page spot.place) entry }
-    ensures room { (n : ℕ) → n + 1 ≤ room_of pages.old.pages pages.old.spares → n ≤ room_of pages.new.pages pages.new.spares }
+    ensures room { (n : ℕ) → n ≤ left → n + 1 ≤ room_of pages.old.pages pages.old.spares → n ≤ room_of pages.new.pages pages.new.spares }
 {
     let Spot { page, place } = spot;
     if pages.as_slice().is_empty() {
@@ -36,29 +109,26 @@ fn put_new<K: Drop, R: Drop>(pages: &mut Pages<K, R>, spot: Spot, entry: (K, (u8
         pages.put_in(page, place, entry);
         return behind(page, place);
     }
-    pages.split(page);
-    if place < HALF {
-        pages.put_in(page, place, entry);
-        return behind(page, place);
+    if can_go_on(pages, spot, runs, left) {
+        return put_on(pages, spot, entry);
     }
-    pages.put_in(page + 1, place - HALF, entry);
-    behind(page + 1, place - HALF)
+    put_in_half(pages, spot, entry)
 }
 
-/// Puts an entry behind all others. Takes no memory.
-pub(crate) fn put_last<K: Drop, R: Drop>(pages: &mut Pages<K, R>, entry: (K, (u8, R)))
+/// Puts an entry behind all others, after which so many more may be put. Takes no memory.
+pub(crate) fn put_last<K: Drop, R: Drop>(pages: &mut Pages<K, R>, entry: (K, (u8, R)), left: usize)
     requires { 1 ≤ room_of pages.old.pages pages.old.spares }
     ensures entries { entries_of pages.new.pages ≡ entries_of pages.old.pages ++ entry ∷ [] }
-    ensures room { (n : ℕ) → n + 1 ≤ room_of pages.old.pages pages.old.spares → n ≤ room_of pages.new.pages pages.new.spares }
+    ensures room { (n : ℕ) → n ≤ left → n + 1 ≤ room_of pages.old.pages pages.old.spares → n ≤ room_of pages.new.pages pages.new.spares }
 {
     let all = pages.as_slice().len();
     if all == 0 {
-        let _behind = put_new(pages, Spot { page: 0, place: 0 }, entry);
+        let _behind = put_new(pages, Spot { page: 0, place: 0 }, entry, true, left);
         return;
     }
     let page = all - 1;
     let place = pages.as_slice()[page].len();
-    let _behind = put_new(pages, Spot { page, place }, entry);
+    let _behind = put_new(pages, Spot { page, place }, entry, true, left);
 }
 
 /// A change that was made.
@@ -69,19 +139,22 @@ struct Made<K, R> {
     freed: Option<(K, Option<R>)>,
 }
 
-/// Puts a stream's row at a key. Takes no memory.
+/// Puts a stream's row at a key, with which a run of rising keys may go on, and after which so many new keys may come.
+/// Takes no memory.
 fn put<K: Ord + Drop, R: Drop>(
     pages: &mut Pages<K, R>,
     hint: Spot,
     stream: u8,
     key: K,
     row: R,
+    runs: bool,
+    left: usize,
 ) -> Made<K, R>
     requires rising { IsRising K.cmp (entries_of pages.old.pages) }
     requires room { (if is_new (Some row) (value_at K.cmp (entries_of pages.old.pages) key) then 1 else 0) ≤ room_of pages.old.pages pages.old.spares }
     ensures rising { IsRising K.cmp (entries_of pages.new.pages) }
     ensures values { IsChanged K.cmp (entries_of pages.old.pages) stream (key, Some row) (entries_of pages.new.pages) }
-    ensures room { (n : ℕ) → n + (if is_new (Some row) (value_at K.cmp (entries_of pages.old.pages) key) then 1 else 0) ≤ room_of pages.old.pages pages.old.spares
+    ensures room { (n : ℕ) → n ≤ left → n + (if is_new (Some row) (value_at K.cmp (entries_of pages.old.pages) key) then 1 else 0) ≤ room_of pages.old.pages pages.old.spares
         → n ≤ room_of pages.new.pages pages.new.spares }
 {
     match spot_by(pages.as_slice(), hint, &key) {
@@ -93,7 +166,7 @@ fn put<K: Ord + Drop, R: Drop>(
             }
         }
         Err(spot) => Made {
-            now: put_new(pages, spot, (key, (stream, row))),
+            now: put_new(pages, spot, (key, (stream, row)), runs, left),
             freed: None,
         },
     }
@@ -137,23 +210,26 @@ fn take_away<K: Ord + Drop, R: Drop>(
     }
 }
 
-/// Makes one change of a stream. Takes no memory.
+/// Makes one change of a stream, with which a run of rising keys may go on, and after which so many may come. Takes no
+/// memory.
 fn make_change<K: Ord + Drop, R: Drop>(
     pages: &mut Pages<K, R>,
     hint: Spot,
     stream: u8,
     change: (K, Option<R>),
+    runs: bool,
+    left: usize,
 ) -> Made<K, R>
     requires rising { IsRising K.cmp (entries_of pages.old.pages) }
     requires room { (if is_new change.1 (value_at K.cmp (entries_of pages.old.pages) change.0) then 1 else 0) ≤ room_of pages.old.pages pages.old.spares }
     ensures rising { IsRising K.cmp (entries_of pages.new.pages) }
     ensures values { IsChanged K.cmp (entries_of pages.old.pages) stream change (entries_of pages.new.pages) }
-    ensures room { (n : ℕ) → n + (if is_new change.1 (value_at K.cmp (entries_of pages.old.pages) change.0) then 1 else 0) ≤ room_of pages.old.pages pages.old.spares
+    ensures room { (n : ℕ) → n ≤ left → n + (if is_new change.1 (value_at K.cmp (entries_of pages.old.pages) change.0) then 1 else 0) ≤ room_of pages.old.pages pages.old.spares
         → n ≤ room_of pages.new.pages pages.new.spares }
 {
     let (key, row) = change;
     match row {
-        Some(row) => put(pages, hint, stream, key, row),
+        Some(row) => put(pages, hint, stream, key, row, runs, left),
         None => take_away(pages, hint, stream, key),
     }
 }
@@ -239,7 +315,15 @@ fn change_next<K: Ord + Drop, R: Drop>(
     let last = left - 1;
     let staged = staged_at(spots, last);
     let hint = drift.hint(pages.as_slice(), staged);
-    let Made { now, freed } = make_change(pages, hint, stream, changes.swap_remove(last));
+    let runs = drift.goes_on(staged);
+    let Made { now, freed } = make_change(
+        pages,
+        hint,
+        stream,
+        changes.swap_remove(last),
+        runs,
+        last,
+    );
     drift.go_on(staged, now);
     hand_back(changes, freed);
     last

@@ -35,6 +35,11 @@ impl Drift {
         self.now = now;
     }
 
+    /// The next change was staged where the last one was, so that its row is put just behind the last one's.
+    pub(crate) fn goes_on(&self, staged: Spot) -> bool {
+        staged.page == self.staged.page && staged.place == self.staged.place
+    }
+
     /// A change of this page can't be made together with others.
     pub(crate) fn close(&mut self, page: usize) {
         self.closed = Some(page);

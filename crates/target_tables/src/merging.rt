@@ -34,18 +34,22 @@ fn take_lesser<K: Ord + Drop, R: Drop>(
     }
 }
 
-/// All entries of two maps, put into an empty one; of two at one key that of the first.
+/// All entries of two maps, so many at most, put into an empty one; of two at one key that of the first.
 fn mix<K: Ord + Drop, R: Drop>(
     mixed: &mut Tables<K, R>,
     mut one: SidePart<'_, K, R>,
     mut other: SidePart<'_, K, R>,
+    count: usize,
 )
     requires empty { mixed.old.entries ≡ [] }
-    requires room { length one + length other ≤ mixed.old.room }
+    requires most { length one + length other ≤ count }
+    requires room { count ≤ mixed.old.room }
     ensures { AreMixed K.cmp one.entry other.entry mixed.new.entries }
 {
+    let mut left = count;
     while let Some(entry) = take_lesser(&mut one, &mut other) {
-        mixed.push_reserved(entry);
+        left = left.saturating_sub(1);
+        mixed.push_reserved(entry, left);
     }
 }
 
@@ -75,6 +79,7 @@ pub fn merge<K: Ord + Drop, R: Drop>(
                 &mut merged,
                 one.into_part(alloc, sides, MergeSide::First),
                 other.into_part(alloc, sides, MergeSide::Second),
+                count,
             );
             Ok(merged)
         }

@@ -14,7 +14,7 @@ use std::mem::replace;
 /// How many entries a page has at most.
 pub(crate) const FULL: usize = 128;
 
-/// How many entries the first of two pages has where a full one is split.
+/// How many entries the first of two pages has where a full one is split in halves.
 pub(crate) const HALF: usize = 64;
 
 /// Up to 128 entries of a map. Seen in contracts as their list. What it can have is reserved from the start.
@@ -129,14 +129,15 @@ impl<K, R> Page<K, R> {
         self.entries.remove(place)
     }
 
-    /// Moves all but the first 64 entries of a full page into an empty one. Takes no memory.
-    pub(crate) fn halve(&mut self, upper: &mut Page<K, R>)
-        requires size { length self.old ≡ 128 }
+    /// Moves the entries from a place on into an empty page. Takes no memory.
+    pub(crate) fn part(&mut self, place: usize, upper: &mut Page<K, R>)
+        requires within { place ≤ length self.old }
+        requires most { length self.old ≤ 128 }
         requires none { upper.old ≡ [] }
-        ensures lower { self.new ≡ take 64 self.old }
-        ensures upper { upper.new ≡ drop 64 self.old }
+        ensures lower { self.new ≡ take place self.old }
+        ensures upper { upper.new ≡ drop place self.old }
     {
-        move_upper(&mut self.entries, HALF, &mut upper.entries);
+        move_upper(&mut self.entries, place, &mut upper.entries);
         upper.entries.reverse();
     }
 

@@ -1,6 +1,6 @@
 //! The pages of a map, and the empty ones that lie ready for new keys.
 
-ghost use Rattle.std.specs.Prelude.{◌≡◌, ◌↔◌, ◌+◌, ◌^◌, ◌<◌, ◌≤◌, [], ◌∷◌, IfOk, IsTrue, OnOk, length, take, set};
+ghost use Rattle.std.specs.Prelude.{◌≡◌, ◌↔◌, ◌+◌, ◌-◌, ◌*◌, ◌^◌, ◌<◌, ◌≤◌, ℕ, List, [], ◌∷◌, IfOk, IsTrue, OnOk, length, take, set};
 ghost use Rattle.std.specs.List.{All, insert, remove};
 ghost use Rattle.std.specs.Ordering.{flip_args};
 ghost use Rattle.std.specs.Prelude.{vec_len};
@@ -47,6 +47,16 @@ fn are_too_many(pages: usize, more: usize) -> bool
     ensures { IsTrue result ↔ (2 ^ 56 < pages + more) }
 {
     more > MOST || pages > MOST - more
+}
+
+/// How many spare pages so many new keys can need beside so many pages: one each, and all together no more than
+/// one for each page and one for each 64 of them.
+pub(crate) fn spares_for(count: usize, pages: usize) -> usize
+    requires { pages ≤ 2 ^ 57 }
+    ensures { (owed : ℕ) → owed ≤ 64 * (pages + 1) → count ≤ result + (63 * result + 63 - owed) }
+{
+    let most = count / HALF + pages + 1;
+    if most < count { most } else { count }
 }
 
 /// Empty pages are added until there are so many. Their places are there.
@@ -97,6 +107,16 @@ impl<K, R> Pages<K, R> {
         ensures { IsTrue result → 0 < self.now.spares }
     {
         !self.spares.is_empty()
+    }
+
+    /// Where one of the empty pages becomes a further page, the others serve for so many new keys, whatever the
+    /// pages have. Takes no memory.
+    pub(crate) fn can_spare(&self, count: usize) -> bool
+        ensures spare { IsTrue result → 0 < self.now.spares }
+        ensures room { IsTrue result → (pages : List (List (K × (ℕ × R)))) → AreFull pages → length pages ≡ length self.now.pages + 1
+            → count ≤ room_of pages (self.now.spares - 1) }
+    {
+        spares_for(count, self.list.len() + 1) < self.spares.len()
     }
 }
 
@@ -171,6 +191,7 @@ impl<K: Drop, R: Drop> Pages<K, R> {
         requires within { place ≤ length (page_at self.old.pages page) }
         requires room { length (page_at self.old.pages page) < 128 }
         ensures pages { self.new.pages ≡ set self.old.pages page (insert (page_at self.old.pages page) place entry) }
+        ensures full { AreFull self.new.pages }
         ensures spares { self.new.spares ≡ self.old.spares }
     {
         self.list[page].put_in(place, entry);
@@ -191,17 +212,32 @@ impl<K: Drop, R: Drop> Pages<K, R> {
         self.list[page].put_over(place, entry)
     }
 
-    /// Splits a full page into two of 64. Takes no memory.
-    pub(crate) fn split(&mut self, page: usize)
+    /// Splits a full page into two, of which the first has its entries before a place. Takes no memory.
+    pub(crate) fn split(&mut self, page: usize, place: usize)
         requires inside { page < length self.old.pages }
         requires full { length (page_at self.old.pages page) ≡ 128 }
+        requires some { 0 < place }
+        requires others { place < 128 }
         requires spare { 0 < self.old.spares }
-        ensures pages { self.new.pages ≡ split_in_two self.old.pages page }
+        ensures pages { self.new.pages ≡ split_in_two self.old.pages page place }
         ensures spares { self.new.spares + 1 ≡ self.old.spares }
     {
         let mut upper = self.spares.take_last();
-        self.list[page].halve(&mut upper);
+        self.list[page].part(place, &mut upper);
         let _ = self.list.insert(page + 1, upper);
+    }
+
+    /// Puts an entry into a page of its own behind a page. Takes no memory.
+    pub(crate) fn begin(&mut self, page: usize, entry: (K, (u8, R)))
+        requires inside { page < length self.old.pages }
+        requires spare { 0 < self.old.spares }
+        ensures pages { self.new.pages ≡ insert self.old.pages (page + 1) (entry ∷ []) }
+        ensures full { AreFull self.new.pages }
+        ensures spares { self.new.spares + 1 ≡ self.old.spares }
+    {
+        let mut next = self.spares.take_last();
+        next.put_in(0, entry);
+        let _ = self.list.insert(page + 1, next);
     }
 
     /// Takes the entry at a place of a page away, and with its last entry the page. Takes no memory.

@@ -17,8 +17,8 @@ use crate::common::Common;
 use crate::fault::TableFault;
 use crate::freed::Freed;
 use crate::merge_side::MergeSide;
-use crate::page::{HALF, Page};
-use crate::pages::Pages;
+use crate::page::Page;
+use crate::pages::{Pages, spares_for};
 use crate::scan::{Scan, scan_from};
 use crate::side_part::{SidePart, count_from};
 use crate::spots::{Spot, entry_at, spot_of};
@@ -28,6 +28,9 @@ use crate::taken::Taken;
 use crate::touched::Touched;
 use std::alloc::{AllocError, Global};
 use std::marker::Model;
+
+/// How many pages more lie ready than new keys can need, so that runs of rising keys can leave full pages behind.
+const FOR_RUNS: usize = 16;
 
 /// A map from keys to rows, each with the number of the stream that owns it. Keys are told apart by
 /// their order. They lie in pages of 1 to 128 entries. Seen in contracts as the list of entries by rising
@@ -71,16 +74,6 @@ fn is_none<K, R>(pages: &[Page<K, R>]) -> bool
     ensures { result ≡ (length (entries_of pages.now) == 0) }
 {
     pages.is_empty()
-}
-
-/// How many spare pages so many new keys can need beside so many pages: one each, and all together no more than
-/// one for each page and one for each 64 of them.
-fn spares_for(count: usize, pages: usize) -> usize
-    requires { pages ≤ 2 ^ 56 }
-    ensures { (owed : ℕ) → owed ≤ 64 * (pages + 1) → count ≤ result + (63 * result + 63 - owed) }
-{
-    let most = count / HALF + pages + 1;
-    if most < count { most } else { count }
 }
 
 impl<K: Ord, R> Tables<K, R> {
@@ -310,31 +303,31 @@ impl<K: Ord + Drop, R: Drop> Tables<K, R> {
         ensures unchanged { OnErr result (self.new.entries ≡ self.old.entries) }
     {
         self.pages.reserve(1)?;
-        put_last(&mut self.pages, (key, (stream, row)));
+        put_last(&mut self.pages, (key, (stream, row)), 0);
         Ok(())
     }
 
-    /// Sees that so many new keys can be put in without memory. An error is want of memory, and leaves the
-    /// entries as they are.
+    /// Sees that so many new keys can be put in without memory, and rising ones into full pages. An error is want of
+    /// memory, and leaves the entries as they are.
     pub(crate) fn reserve(&mut self, count: usize) -> Result<(), AllocError>
         ensures entries { self.new.entries ≡ self.old.entries }
         ensures room { self.old.room ≤ self.new.room }
         ensures ok { OnOk result (count ≤ self.new.room) }
     {
-        let spares = spares_for(count, self.pages.as_slice().len());
+        let spares = spares_for(count, self.pages.as_slice().len() + FOR_RUNS);
         self.pages.reserve(spares)?;
         Ok(())
     }
 
-    /// Puts an entry behind all others. Takes no memory.
-    pub(crate) fn push_reserved(&mut self, entry: (K, (u8, R)))
+    /// Puts an entry behind all others, after which so many more may be put. Takes no memory.
+    pub(crate) fn push_reserved(&mut self, entry: (K, (u8, R)), left: usize)
         requires below { AreBelow K.cmp entry.0 self.old.entries }
         requires room { 1 ≤ self.old.room }
         ensures entries { self.new.entries ≡ self.old.entries ++ entry ∷ [] }
-        ensures room { (n : ℕ) → n + 1 ≤ self.old.room → n ≤ self.new.room }
+        ensures room { (n : ℕ) → n ≤ left → n + 1 ≤ self.old.room → n ≤ self.new.room }
         ensures rising { IsRising K.cmp self.new.entries }
     {
-        put_last(&mut self.pages, entry);
+        put_last(&mut self.pages, entry, left);
     }
 
     /// The entries of the streams that come from this side, to be taken out; the others are dropped. Takes no memory.

@@ -192,7 +192,8 @@ fn has_pages(tables: &Tables<u64, u32>, lens: &[usize]) -> bool {
     same
 }
 
-/// The first 128 keys fill a page, the next splits it, and a page leaves with its last entry.
+/// The first 128 keys fill a page, and the next begins one. A key before a full page's others splits it in halves.
+/// A page leaves with its last entry.
 const PAGES: &[(KeyRun, &[usize])] = &[
     (
         KeyRun {
@@ -210,16 +211,25 @@ const PAGES: &[(KeyRun, &[usize])] = &[
             count: 1,
             row: Some(0),
         },
-        &[64, 65],
+        &[128, 1],
     ),
     (
         KeyRun {
             stream: 0,
-            first: 1,
-            count: 64,
+            first: 0,
+            count: 1,
+            row: Some(0),
+        },
+        &[65, 64, 1],
+    ),
+    (
+        KeyRun {
+            stream: 0,
+            first: 0,
+            count: 65,
             row: None,
         },
-        &[65],
+        &[64, 1],
     ),
     (
         KeyRun {
@@ -232,7 +242,55 @@ const PAGES: &[(KeyRun, &[usize])] = &[
     ),
 ];
 
-/// Whether each run leaves pages of these lengths.
+/// Groups of keys that rise before others: the page that both share is split between them, and those that rise leave
+/// full pages behind.
+const PAGES_BETWEEN: &[(KeyRun, &[usize])] = &[
+    (
+        KeyRun {
+            stream: 0,
+            first: 1001,
+            count: 28,
+            row: Some(0),
+        },
+        &[28],
+    ),
+    (
+        KeyRun {
+            stream: 0,
+            first: 1,
+            count: 100,
+            row: Some(0),
+        },
+        &[128],
+    ),
+    (
+        KeyRun {
+            stream: 0,
+            first: 101,
+            count: 100,
+            row: Some(0),
+        },
+        &[64, 128, 8, 28],
+    ),
+];
+
+/// Makes the touches as one group.
+fn touch_together(
+    alloc: Global,
+    tables: &mut Tables<u64, u32>,
+    run: &KeyRun,
+) -> Result<(), AllocError> {
+    let mut touches = Vec::new(alloc);
+    for key in run.first..run.first.saturating_add(run.count) {
+        touches.push((key, run.row))?;
+    }
+    match tables.apply(alloc, run.stream, touches) {
+        Ok(_) => Ok(()),
+        Err(_) => Err(AllocError),
+    }
+}
+
+/// Whether each run, a key a group, leaves pages of these lengths.
 fn split_and_leave(alloc: Global) -> Result<bool, AllocError> {
     let mut tables = Tables::new(alloc);
     for (keys, lens) in PAGES {
@@ -247,6 +305,24 @@ fn split_and_leave(alloc: Global) -> Result<bool, AllocError> {
 #[test]
 fn pages_split_and_leave(rt: HostRuntime) -> Result<(), Fail> {
     assert!(rt; split_and_leave(rt.alloc())?);
+    Ok(())
+}
+
+/// Whether each run, all of it a group, leaves pages of these lengths.
+fn fill_between(alloc: Global) -> Result<bool, AllocError> {
+    let mut tables = Tables::new(alloc);
+    for (keys, lens) in PAGES_BETWEEN {
+        touch_together(alloc, &mut tables, keys)?;
+        if !has_pages(&tables, lens) {
+            return Ok(false);
+        }
+    }
+    Ok(true)
+}
+
+#[test]
+fn rising_keys_fill_pages_before_others(rt: HostRuntime) -> Result<(), Fail> {
+    assert!(rt; fill_between(rt.alloc())?);
     Ok(())
 }
 

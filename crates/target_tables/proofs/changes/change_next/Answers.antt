@@ -1,11 +1,12 @@
 use Rattle.std.proofs.Common.{◌≡◌, ℕ, ◌+◌, ◌-◌, ◌<◌, ◌≤◌, cond, List, Option, ◌++◌, ◌∷◌, [], length, take, vec_len, sym, ap, subst, ◌∙◌, arith}
+use Rattle.std.proofs.lemmas.List.{length-take-le}
 use Rattle.std.specs.Ordering.{flip_args}
 use Rattle.target_tables.specs.Pages.{entries_of, room_of}
 use Rattle.target_tables.specs.Contents.{value_at}
 use Rattle.target_tables.specs.Rising.{IsRising}
 use Rattle.target_tables.specs.Private.Runs.{Leads}
 use Rattle.target_tables.specs.Touches.{is_new, new_keys}
-use Rattle.target_tables.proofs.Committing.{leads_at_first, leads_on, new_left, new_keys-push, take_swapped, taken_apart}
+use Rattle.target_tables.proofs.Committing.{leads_at_first, leads_on, new_left, new_keys-push, new_keys-most, take_swapped, taken_apart}
 use Rattle.target_tables.proofs.changes.change_next.Goals as goal
 
 pub make_change-freed-requires-clause-room : goal.make_change-freed-requires-clause-room
@@ -59,4 +60,6 @@ returns-clause-room g c =
     let count : new_keys g.K.Ord.cmp es (take n xs) ≡ new_keys g.K.Ord.cmp next left + cond (is_new x.1 (value_at g.K.Ord.cmp es x.0)) 1 0 =
     ap (λ (l : List (g.row.K.Denot × Option g.row.R.Denot)). new_keys g.K.Ord.cmp es l) apart
     ∙ new_left g.met.K.Ord.total c.args.stream left x es next falling c.make_change-freed.ensures.values in
-    c.make_change-freed.ensures.room (new_keys g.K.Ord.cmp next left) (omega arith)
+    let few : new_keys g.K.Ord.cmp next left ≤ length left = new_keys-most g.K.Ord.cmp next left in
+    let long : length left ≡ n - 1 = ap length same ∙ length-take-le (n - 1) xs (omega arith) in
+    c.make_change-freed.ensures.room (new_keys g.K.Ord.cmp next left) (omega arith) (omega arith)

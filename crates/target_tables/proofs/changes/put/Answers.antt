@@ -32,7 +32,7 @@ returns-in-Ok-clause-values g c =
     ∙ values_put g.met.K.Ord.total es c.args.key n c.requires.rising at.at (get_or es n d) (get_or_default es n d _ at.at.inside) (c.args.stream, c.args.row) q
 
 pub returns-in-Ok-clause-room : goal.returns-in-Ok-clause-room
-returns-in-Ok-clause-room g c = λ m h.
+returns-in-Ok-clause-room g c = λ m few h.
     let Q : (List (List (g.row.K.Denot × (ℕ × g.row.R.Denot)))) → Type 0 = λ l. StandsAt g.K.Ord.cmp l c.args.key c.in-Ok.spot.page c.in-Ok.spot.place in
     let at : StandsAt g.K.Ord.cmp c.args.pages.now.pages c.args.key c.in-Ok.spot.page c.in-Ok.spot.place = subst Q c.as_slice.ensures.pages c.in-Ok.ensures in
     let d : (g.row.K.Denot × (ℕ × g.row.R.Denot)) = (c.args.key, (c.args.stream, c.args.row)) in
@@ -69,11 +69,11 @@ returns-in-Err-clause-values g c =
     λ q. ap (λ (l : (List (g.row.K.Denot × (ℕ × g.row.R.Denot)))). value_at g.K.Ord.cmp l q) c.put_new.ensures.entries ∙ values_inserted g.met.K.Ord.total es c.args.key n c.requires.rising at.gap (c.args.stream, c.args.row) q
 
 pub returns-in-Err-clause-room : goal.returns-in-Err-clause-room
-returns-in-Err-clause-room g c = λ m h.
+returns-in-Err-clause-room g c = λ m few h.
     let Q : (List (List (g.row.K.Denot × (ℕ × g.row.R.Denot)))) → Type 0 = λ l. WouldStandAt g.K.Ord.cmp l c.args.key c.in-Err.spot.page c.in-Err.spot.place in
     let at : WouldStandAt g.K.Ord.cmp c.args.pages.now.pages c.args.key c.in-Err.spot.page c.in-Err.spot.place = subst Q c.as_slice.ensures.pages c.in-Err.ensures in
     let es : (List (g.row.K.Denot × (ℕ × g.row.R.Denot))) = entries_of c.args.pages.now.pages in
     let n : ℕ = flat c.args.pages.now.pages c.in-Err.spot.page c.in-Err.spot.place in
     let v : value_at g.K.Ord.cmp es c.args.key ≡ None = none_here g.met.K.Ord.total es c.args.key n c.requires.rising at.gap in
     let S : Option (ℕ × g.row.R.Denot) → Type 0 = λ there. m + cond (is_new (Some c.args.row) there) 1 0 ≤ room_of c.args.pages.now.pages c.args.pages.now.spares in
-    c.put_new.ensures.room m (subst S v h)
+    c.put_new.ensures.room m few (subst S v h)

@@ -17,16 +17,16 @@ invariant_of-self g c =
     let listed : vec_len c.self.inside.list + vec_len c.self.inside.spares ≤ vec_capacity c.self.inside.list = c.self.invariant.listed in
     let made : is_ok c.insert.result ≡ true = c.insert.ensures.succeeds (omega arith) in
     let count : vec_len c.insert.new.self ≡ vec_len c.self.inside.list + 1 = c.insert.ensures.len ∙ ap (λ b. cond b (vec_len c.self.inside.list + 1) (vec_len c.self.inside.list)) made in
-    let whole : c.insert.new.self.items ≡ split_in_two all c.args.page =
+    let whole : c.insert.new.self.items ≡ split_in_two all c.args.page c.args.place =
     c.insert.ensures.items
-    ∙ ap (λ b. cond b (insert (set all c.args.page c.halve.new.self) (c.args.page + 1) c.halve.new.upper) (set all c.args.page c.halve.new.self)) made
-    ∙ ap (λ (page : List (g.row.K.Denot × (ℕ × g.row.R.Denot))). insert (set all c.args.page page) (c.args.page + 1) c.halve.new.upper) (c.halve.ensures.lower ∙ ap (λ (page : List (g.row.K.Denot × (ℕ × g.row.R.Denot))). take 64 page) there)
-    ∙ ap (λ (page : List (g.row.K.Denot × (ℕ × g.row.R.Denot))). insert (set all c.args.page (take 64 (page_at all c.args.page))) (c.args.page + 1) page) (c.halve.ensures.upper ∙ ap (λ (page : List (g.row.K.Denot × (ℕ × g.row.R.Denot))). drop 64 page) there) in
+    ∙ ap (λ b. cond b (insert (set all c.args.page c.part.new.self) (c.args.page + 1) c.part.new.upper) (set all c.args.page c.part.new.self)) made
+    ∙ ap (λ (page : List (g.row.K.Denot × (ℕ × g.row.R.Denot))). insert (set all c.args.page page) (c.args.page + 1) c.part.new.upper) (c.part.ensures.lower ∙ ap (λ (page : List (g.row.K.Denot × (ℕ × g.row.R.Denot))). take c.args.place page) there)
+    ∙ ap (λ (page : List (g.row.K.Denot × (ℕ × g.row.R.Denot))). insert (set all c.args.page (take c.args.place (page_at all c.args.page))) (c.args.page + 1) page) (c.part.ensures.upper ∙ ap (λ (page : List (g.row.K.Denot × (ℕ × g.row.R.Denot))). drop c.args.place page) there) in
     let left : List (List (g.row.K.Denot × (ℕ × g.row.R.Denot))) = c.take_last-upper.new.self.items in
     let P : List (g.row.K.Denot × (ℕ × g.row.R.Denot)) → Type 0 = λ page. page ≡ [] in
     let Q : List (List (g.row.K.Denot × (ℕ × g.row.R.Denot))) → Type 0 = All P in
     record {
-      full = subst AreFull (sym whole) (full_split all c.args.page inside size c.self.invariant.full);
+      full = subst AreFull (sym whole) (full_split all c.args.page inside size c.args.place c.requires.some c.requires.others c.self.invariant.full);
       empty = All-same P left (take (length left) (left ++ c.take_last-upper.result ∷ [])) (sym (take_at left (c.take_last-upper.result ∷ []) (length left) refl)) (All-take P (length left) (left ++ c.take_last-upper.result ∷ []) (subst Q c.take_last-upper.ensures.items c.self.invariant.empty));
       listed = omega arith;
       spared = omega arith;
