@@ -14,8 +14,10 @@ a workflow with another type or another number of columns is refused where the t
 transaction. Behind the feed of the logs up to a transaction, for each of them, `--after` writes the rest of the whole feed's
 messages, of all logs or of those from that one's file on; behind the whole feed it writes nothing; where a table that is made in
 an earlier file has its first rows behind that feed, the later logs alone are refused 159. Logs that begin behind the feed's end
-are refused 159, and a feed of another shard or with other columns 89 and 85. Where a growth of memory is refused, three of each case, it
-is 72. One case's last file is cut at every byte, and every bit of one of its events is turned. The last line is 'N passed, M failed'.
+are refused 159, and a feed of another shard or with other columns 89 and 85. A log that is gone, or a folder, is 131 by its name;
+of a run that is refused nothing is left where --save-to names a file, and that is as it was. Where a growth of memory is refused, three
+of each case, it is 72. One case's last file is cut at every byte, and every bit of one of its events is turned. The last line is
+'N passed, M failed'.
 """
 import argparse
 import bisect
@@ -237,10 +239,24 @@ class Trial:
             wants(ran[0] == 1 and not ran[1] and ran[2].startswith(b"refused 85") or not self.history.fields, ("other columns", ran))
 
     def line_after(self, ran: tuple[int, bytes, bytes], number: int, name: str) -> None:
-        wants(ran[0] == 1 and not ran[1] and ran[2].startswith(b"refused %d file %s" % (number, name.encode())), ran)
+        self.line(ran, {number}, name)
+
+    def unread(self) -> None:
+        """A log that is gone, or a folder, behind sound ones, and one that is told twice: nothing is left of what was written."""
+        self.place.put("kept", b"as it was")
+        before = set(os.listdir(self.place.folder))
+        for words in ((), ("--save-to=kept",), ("--save-to=new",)):
+            for missing in ("gone", "."):
+                ran = self.made([*self.names, missing], words=words)
+                wants(ran == (1, b"", b"refused 131 file %s\n" % missing.encode()), ("unread", missing, words, ran))
+            self.line(self.made([*self.names, self.names[0]], words=words), {159, 156}, self.names[0])
+        with open(os.path.join(self.place.folder, "kept"), "rb") as file:
+            wants(file.read() == b"as it was", "the file of --save-to")
+        wants(set(os.listdir(self.place.folder)) == before, ("left", set(os.listdir(self.place.folder)) - before))
 
     def all(self) -> None:
         self.plain()
+        self.unread()
         self.parts()
         self.gaps()
         for _ in range(4):

@@ -7,15 +7,18 @@ The parts are
 
     shapes         logs of six shapes, some N megabytes each (24), in two files: the whole feed, and what is behind the feed of the first
                    file (`--after`), beside mariadb-binlog -v and -vv, and record/feed, which reads the log from its server
-    transactions   the most memory for logs of 1, 10 and 100 MB: in one transaction, in small ones, and these in files of a megabyte
+    transactions   the most memory with `--save-to` for logs of 1, 10 and 100 MB: in one transaction, in small ones, and these in files
+                   of a megabyte
     seconds        where they go, sampled by `perf record -e cpu-clock` over half of each of these logs: the functions that take most, without
                    those that they call
-    instructions   counted by `valgrind --tool=callgrind` over 2 MB of each shape; of the first one those of each crate, and of
-                   the functions that take most
+    instructions   of the same commands over logs of 2 MB, counted by `valgrind --tool=callgrind`, a byte of the log, Python's start among
+                   them; of `transcribe` over the first one those of each crate, and of the functions that take most
 
 and without one all of them. Seconds are the processor's, those of the system among them, the least of N rounds (2) in which the commands
 come in turns; memory is the most of all rounds. A megabyte has 10^6 bytes, and those of a second are the log's. A private server in a
-temporary folder writes the logs; what the commands print goes nowhere. What is printed here is in lines for README.md beside this.
+temporary folder writes the logs; what the commands print goes nowhere. What is printed here is in lines for README.md beside this,
+which takes a table by `bench/log/measure.py instructions | scripts/figures put 'log instructions'`. Counts have no noise and need no
+idle machine, but a server that is at hand.
 """
 import argparse
 import hashlib
@@ -48,6 +51,8 @@ WHOLE_FILE, SMALL_FILE = 2**30, 2**20
 """The bytes above which a log file ends: in the server's own setting, and the megabyte of `transactions`."""
 GOAL = 120
 """The megabytes of log a second that are wanted."""
+COUNTED = 2
+"""The megabytes of a log whose instructions are counted."""
 
 
 @dataclass(frozen=True)
@@ -79,10 +84,8 @@ def line(*cells: object) -> None:
     print("| " + " | ".join(map(str, cells)) + " |", flush=True)
 
 
-def head(*cells: str) -> None:
-    print()
-    line(*cells)
-    print("|" + "---|" * len(cells), flush=True)
+def head(columns: str) -> None:
+    print(f"\n{columns}\n|" + "---|" * (columns.count("|") - 1), flush=True)
 
 
 class Source:
@@ -153,22 +156,33 @@ def dumped(program: str, plan: str, *feeds: str) -> str:
     return found
 
 
+def filled(server: Server, shape: Shape, size: float, program: str) -> tuple[Source, str]:
+    """A source of so many megabytes of log in two files, and the feed of the first one."""
+    source = Source(server, shape)
+    source.fill(size * 5e5)
+    source.next_file()
+    source.fill(size * 5e5)
+    front = source.path("front.feed")
+    used_by(*source.transcribe(program, "--save-to", front, logs=source.logs()[:1]))
+    return source, front
+
+
+def commands(source: Source, front: str, said: argparse.Namespace) -> list[list[str]]:
+    """What is measured beside one another: those of the tables' last five columns; without words where the program isn't there."""
+    printing = [[said.binlog, "--no-defaults", how, *source.logs()] if said.binlog else [] for how in ("-v", "-vv")]
+    return [source.transcribe(said.program), source.transcribe(said.program, "--after", front), *printing, source.record()]
+
+
 def shapes(server: Server, said: argparse.Namespace) -> None:
     """With a check that the feed, the one that was gone on with, and the recorder's have the same rows."""
-    head("Log", "MB", "The feed's MB", "Rows", "transcribe", "--after", "binlog -v", "binlog -vv", "record/feed")
+    head("| Log | MB | The feed's MB | Rows | transcribe | --after | binlog -v | binlog -vv | record/feed |")
     missed = []
     for name, shape in SHAPES.items():
-        source = Source(server, shape)
-        source.fill(said.mb * 5e5)
-        source.next_file()
-        source.fill(said.mb * 5e5)
-        logs, (front, whole, more) = source.logs(), (source.path(f"{one}.feed") for one in ("front", "whole", "more"))
-        used_by(*source.transcribe(said.program, "--save-to", front, logs=logs[:1]))
+        source, front = filled(server, shape, said.mb, said.program)
+        logs, (whole, more) = source.logs(), (source.path(f"{one}.feed") for one in ("whole", "more"))
         used_by(*source.transcribe(said.program, "--save-to", whole))
         used_by(*source.transcribe(said.program, "--after", front, "--save-to", more))
-        printing = [[said.binlog, "--no-defaults", how, *logs] if said.binlog else [] for how in ("-v", "-vv")]
-        commands = [source.transcribe(said.program), source.transcribe(said.program, "--after", front), *printing]
-        rounds = [[used_by(*words) if words else (0, 0.0) for words in [*commands, source.record()]] for _ in range(said.rounds)]
+        rounds = [[used_by(*words) if words else (0, 0.0) for words in commands(source, front, said)] for _ in range(said.rounds)]
         if len({dumped(said.program, source.plan, *feeds) for feeds in ((whole,), (front, more), (source.recorded,))}) > 1:
             raise RuntimeError(f"{name}: the feeds have other rows")
         size, cells = size_of(logs), []
@@ -182,21 +196,27 @@ def shapes(server: Server, said: argparse.Namespace) -> None:
 
 
 def transactions(server: Server, said: argparse.Namespace) -> None:
-    head("MB of log", "One transaction", "Of 100 rows each", "These in files of a megabyte", "binlog -vv of the one transaction")
+    head("| MB of log | One transaction | Of 100 rows each | These in files of a megabyte | binlog -vv of the one transaction |")
     for size in (1, 10, 100):
         cells = []
         for together, file_size in ((10**9, WHOLE_FILE), (100, WHOLE_FILE), (100, SMALL_FILE)):
             source = Source(server, Shape(MIDDLE, MIDDLE_ROW, together, 214), file_size)
             source.fill(size * 1e6)
-            cells.append(f"{used_by(*source.transcribe(said.program))[0] / 1e6:.0f} MB")
+            cells.append(f"{used_by(*source.transcribe(said.program, '--save-to', source.path('told.feed')))[0] / 1e6:.0f} MB")
             if together > 100:
                 printed = f"{used_by(said.binlog, '--no-defaults', '-vv', *source.logs())[0] / 1e6:.0f} MB" if said.binlog else ""
         line(size, *cells, printed)
 
 
-def counted(words: list[str], told: str) -> Counter:
-    """By function the instructions that a command takes in it, without those that it calls."""
+def counted(words: list[str], told: str) -> int:
+    """The instructions that a command takes."""
     subprocess.run(["valgrind", "-q", "--tool=callgrind", f"--callgrind-out-file={told}", *words], stdout=subprocess.DEVNULL, check=True)
+    with open(told, encoding="utf-8") as file:
+        return int(re.search(r"^totals: (\d+)", file.read(), re.MULTILINE)[1])
+
+
+def by_function(told: str) -> Counter:
+    """Those in each function, without those that it calls."""
     text = subprocess.run(["callgrind_annotate", "--threshold=100", told], stdout=subprocess.PIPE, text=True, check=True).stdout
     counts = Counter()
     for count, name in re.findall(r"^ *([\d,]+) \([ \d.]+%\)  (.+?)(?: \[[^\]]*\])?$", text, re.MULTILINE):
@@ -216,21 +236,21 @@ def kind_of(name: str) -> str:
 
 
 def instructions(server: Server, said: argparse.Namespace) -> None:
-    head("Log", "MB", "Instructions a byte", "a row")
-    found = {}
+    head("| Log | MB | transcribe, a row | transcribe | --after | binlog -v | binlog -vv | record/feed |")
+    first = None
     for name, shape in SHAPES.items():
-        source = Source(server, shape)
-        source.fill(2e6)
-        found[name] = counted(source.transcribe(said.program), source.path("callgrind")), source.rows
-        (counts, rows), size = found[name], size_of(source.logs())
-        line(name, f"{size:.1f}", f"{counts.total() / size / 1e6:.1f}", f"{counts.total() / rows:,.0f}")
-    counts, rows = next(iter(found.values()))
+        source, front = filled(server, shape, COUNTED, said.program)
+        counts = [counted(words, source.path(f"callgrind{at}")) if words else 0 for at, words in enumerate(commands(source, front, said))]
+        first = first or (by_function(source.path("callgrind0")), source.rows)
+        size = size_of(source.logs())
+        line(name, f"{size:.1f}", f"{counts[0] / source.rows:,.0f}", *(f"{count / size / 1e6:,.1f}" if count else "" for count in counts))
+    counts, rows = first
     kinds = Counter()
     for function, count in counts.items():
         kinds[kind_of(function)] += count
     functions = Counter({name if "::" in name else name.rpartition(":")[2]: count for name, count in counts.items()})
-    for what, parts in (("Crate", kinds), ("Function", functions)):
-        head(what, "Instructions a row", "Of all")
+    for columns, parts in (("| Crate | Instructions a row | Of all |", kinds), ("| Function | Instructions a row | Of all |", functions)):
+        head(columns)
         for name, count in parts.most_common(12):
             line(name, f"{count / rows:.0f}", f"{100 * count / counts.total():.1f} %")
 
@@ -246,7 +266,7 @@ def sampled(words: list[str], told: str) -> Counter:
 
 
 def seconds(server: Server, said: argparse.Namespace) -> None:
-    head("Log", "Of the seconds")
+    head("| Log | Of the seconds |")
     for name, shape in SHAPES.items():
         source = Source(server, shape)
         source.fill(said.mb * 5e5)

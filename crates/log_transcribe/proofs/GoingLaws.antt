@@ -192,7 +192,7 @@ module _ (s : SourceTables) (had : List Stage) where
   abbrev Whole : Type 0
   Whole = Result (List (List EventValue)) LogsFault
 
-  end_is : (logs : List (List ℕ)) (a next_a : Along) (out : List ℕ) → with_going (logs_behind 0 s had [] logs a) [] ≡ Ok (out, next_a) → bytes_told (behind_told s had a logs) ≡ of_tell (length logs) (last_with (last_told s next_a.far) out)
+  pub end_is : (logs : List (List ℕ)) (a next_a : Along) (out : List ℕ) → with_going (logs_behind 0 s had [] logs a) [] ≡ Ok (out, next_a) → bytes_told (behind_told s had a logs) ≡ of_tell (length logs) (last_with (last_told s next_a.far) out)
   end_is logs a next_a out e = by (logs_behind 0 s had [] logs a) e
     where
       ends : (x : Going) (r : Result (List (List EventValue)) TellFault) → bytes_told (of_tell (length logs) r >>= λ last. Ok (x.0 ++ last)) ≡ of_tell (length logs) (last_with r (written x.0))

@@ -5,3 +5,6 @@ pub mod ApartLaws
 pub mod SaidLaws
 pub mod SeenLaws
 pub mod FurtherLaws
+pub mod StreamLaws
+pub mod WholeLaws
+pub mod SpoolLaws

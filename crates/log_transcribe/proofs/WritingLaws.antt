@@ -92,14 +92,14 @@ module _ (file : ℕ) (s : SourceTables) (g : PlacedValue) (far : Far) (out : Li
   of_told r = with_messages (of_tell file (of_changes r >>= λ x. messages_with s g.position x.0 >>= λ messages. Ok (messages, record { reached = g.position; stages = x.1; said = has_events x.0 }))) out
 
   put_so : (x : Told) (r : Result (List (List EventValue)) TellFault) (next : List ℕ) (said : Bool) → of_events r x ≡ Ok (next, said)
-      → with_messages (of_tell file (r >>= λ messages. Ok (messages, record { reached = g.position; stages = x.1; said = has_events x.0 }))) out ≡ Ok (next, record { reached = g.position; stages = x.1; said = said })
+      → with_messages {A = Far} (of_tell file (r >>= λ messages. Ok (messages, record { reached = g.position; stages = x.1; said = has_events x.0 }))) out ≡ Ok (next, record { reached = g.position; stages = x.1; said = said })
   put_so x (Err fault) next said e = cc
   put_so x (Ok messages) next said e =
       let both : ◌≡◌ {A = List ℕ × Bool} (out ++ written messages, has_events x.0) (next, said) = same_told (out ++ written messages, has_events x.0) (next, said) e in
       ap (λ (p : List ℕ × Bool). Ok (p.0, record { reached = g.position; stages = x.1; said = p.1 })) both
 
   put_not : (x : Told) (r : Result (List (List EventValue)) TellFault) (fault : TellFault) → of_events r x ≡ Err fault
-      → with_messages (of_tell file (r >>= λ messages. Ok (messages, record { reached = g.position; stages = x.1; said = has_events x.0 }))) out ≡ Err (Tell file fault)
+      → with_messages {A = Far} (of_tell file (r >>= λ messages. Ok (messages, record { reached = g.position; stages = x.1; said = has_events x.0 }))) out ≡ Err (Tell file fault)
   put_not x (Err other) fault e = let same : other ≡ fault = cc in ap (λ (f : TellFault). Err (Tell file f)) same
   put_not x (Ok messages) fault e = cc
 
@@ -323,7 +323,7 @@ last-put s reached false out = by (place_told s.keyspace s.shard reached)
     by (Ok place) = ap (λ (b : List ℕ). Ok (out ++ b)) (sym (append-nil (framed (written_response (written_event place ∷ [])))))
 
 -- the bytes of all messages are those of the files with the last one behind them
-feed_is : (s : SourceTables) (logs : List (List ℕ)) (out : List ℕ) (far : Far) → with_messages (logs_told 0 s [] logs (nothing_told s)) [] ≡ Ok (out, far) → bytes_told (feed_told s logs) ≡ of_tell (length logs) (last_with (last_told s far) out)
+pub feed_is : (s : SourceTables) (logs : List (List ℕ)) (out : List ℕ) (far : Far) → with_messages (logs_told 0 s [] logs (nothing_told s)) [] ≡ Ok (out, far) → bytes_told (feed_told s logs) ≡ of_tell (length logs) (last_with (last_told s far) out)
 feed_is s logs out far e = by (logs_told 0 s [] logs (nothing_told s)) e
   where
     ends : (x : Messages) (r : Result (List (List EventValue)) TellFault) → bytes_told (of_tell (length logs) r >>= λ last. Ok (x.0 ++ last)) ≡ of_tell (length logs) (last_with r (written x.0))

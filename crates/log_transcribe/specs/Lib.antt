@@ -5,4 +5,6 @@ pub mod Said
 pub mod Apart
 pub mod Behind
 pub mod Further
+pub mod Files
+pub mod Streamed
 pub mod Private

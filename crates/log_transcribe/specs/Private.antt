@@ -2,3 +2,5 @@
 pub mod Bytes
 pub mod Sees
 pub mod Goes
+pub mod Sends
+pub mod Opens

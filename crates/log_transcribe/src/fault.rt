@@ -5,6 +5,7 @@ ghost use Rattle.log_transcribe.specs.Fault.{number_of, file_of, behind_number};
 ghost use Rattle.log_transcribe.specs.declared.fault.LogsError.TheVariants as logs_error;
 ghost use Rattle.log_transcribe.specs.declared.fault.TellError.TheVariants as tell_error;
 ghost use Rattle.log_transcribe.specs.declared.fault.BehindError.TheVariants as behind_error;
+ghost use Rattle.log_transcribe.specs.declared.fault.StreamError.TheVariants as stream_error;
 
 use log_course::CourseFault;
 use log_laws::TellFault;
@@ -94,6 +95,29 @@ impl From<AllocError> for BehindError {
 
     fn from(_error: AllocError) -> BehindError {
         BehindError::Memory
+    }
+}
+
+/// Why what logs tell isn't written, where they are read one at a time.
+#[derive(Clone, Copy, Debug, PartialEq, Eq)]
+pub enum StreamError {
+    Memory,
+    /// A write failed.
+    Unwritten,
+    /// The file at this place, from 0, can't be read.
+    Unread(usize),
+    /// The feed behind which to go on is refused.
+    Feed(FeedFault),
+    /// The first fault of the logs, and the byte of its file at which it stands: the first one of the event that is at fault, or
+    /// of the transaction that can't be told. None where it is of no event.
+    Fault(LogsFault, Option<usize>),
+}
+
+impl From<AllocError> for StreamError {
+    ghost from_gives = { λ _ error. error ≡ stream_error.Memory };
+
+    fn from(_error: AllocError) -> StreamError {
+        StreamError::Memory
     }
 }
 

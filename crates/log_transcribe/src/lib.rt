@@ -3,11 +3,20 @@
 
 mod apart;
 mod behind;
+mod events;
 mod fault;
+mod files;
+mod further;
 mod message;
+mod outgoing;
+mod place;
 mod said;
+mod sequel;
+mod spool;
 mod transcript;
 
-pub use behind::transcribe_behind;
-pub use fault::{BehindError, BehindFault, LogsError, LogsFault};
-pub use transcript::{FeedSource, transcribe};
+pub use fault::{BehindError, BehindFault, LogsError, LogsFault, StreamError};
+pub use files::{LogBytes, LogFiles, ReadFault};
+pub use further::{transcribe_behind, transcribe_behind_to};
+pub use spool::Spool;
+pub use transcript::{FeedSource, transcribe, transcribe_to};

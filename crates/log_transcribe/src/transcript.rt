@@ -1,19 +1,25 @@
 //! The feed of logs.
 
-ghost use Rattle.std.specs.Prelude.{◌≡◌, ◌++◌, [], ◌∷◌, List, length, map, replicate, option_map, IfOk, OnOk};
+ghost use Rattle.std.specs.Prelude.{◌≡◌, ◌<◌, ◌≤◌, ◌+◌, true, [], ◌∷◌, length, map, replicate, IfOk};
 ghost use Rattle.list_laws.specs.Outcome.{GivesUnless};
 ghost use Rattle.log_feed.specs.declared.table.Stage.TheVariants.{Absent};
 ghost use Rattle.log_groups.specs.GroupCalls.{waiting_value};
 ghost use Rattle.log_course.specs.Calls.{placed_value};
 ghost use Rattle.log_laws.specs.Source.{IsSource};
 ghost use Rattle.log_laws.specs.Transcript.{group_told, last_told};
-ghost use Rattle.log_transcribe.specs.Fault.{meant, of_tell};
+ghost use Rattle.log_transcribe.specs.Fault.{meant, of_logs, of_tell};
 ghost use Rattle.log_transcribe.specs.Transcript.{source_value, course_told, log_told, none_waits, logs_told, nothing_told, feed_told, feed_of_logs};
 ghost use Rattle.log_transcribe.specs.Feed.{IsFeedOfLogs};
-ghost use Rattle.log_transcribe.specs.Private.Bytes.{course_error_at, change_error_at, tell_error_at, with_messages, with_waiting, last_with, bytes_told, PutsNext, KeepsWaiting};
+ghost use Rattle.log_transcribe.specs.Streamed.{EndsSo};
+ghost use Rattle.log_transcribe.specs.Private.Bytes.{course_error_at, change_error_at, tell_error_at, with_messages, last_with, PutsNext, KeepsWaiting};
+ghost use Rattle.log_transcribe.specs.Private.Sends.{Puts, PutsEnd, PutsFiles, PutsLog, PutsOne, PutsSpan, Stills, TellsAll, logs_error_of, sending};
 
-use crate::fault::{LogsError, LogsFault, TellError};
+use crate::fault::{LogsError, LogsFault, StreamError, TellError};
+use crate::files::{LentLogs, LogFiles, ReadFault};
 use crate::message::{put_events, put_last};
+use crate::outgoing::Outgoing;
+use crate::place::{at_begin, at_end, bytes_read, inside, nowhere};
+use crate::spool::Spool;
 use gtid_set::GtidSet;
 use log_course::{CourseError, CourseFault, LogGroups, PlacedGroup, courses_are_read};
 use log_events::CrcTable;
@@ -23,6 +29,7 @@ use log_laws::{
     TellFault, courses_rise, ends_are_told, feeds_have_their_groups, messages_are_read,
     transactions_are_told, transactions_reach,
 };
+use printing::Out;
 use std::alloc::{AllocError, Global};
 use std::marker::Model;
 
@@ -54,6 +61,32 @@ impl<'t, 'w> Model for Transcript<'t, 'w> {
     ghost Value = { TranscriptValue };
 
     ghost view = { λ t. record { source = record { keyspace = t.keyspace.now; shard = t.shard.now; schema = t.writer.schema; tables = t.writer.tables }; far = record { reached = t.reached; stages = t.writer.stages; said = t.said } } };
+}
+
+/// Where a file ends: the XA transactions that wait there, and how many of its bytes were read.
+#[derive(Drop)]
+pub(crate) struct LogEnd<'b> {
+    pub(crate) waiting: Vec<Waiting<'b>>,
+    pub(crate) read: usize,
+}
+
+impl LogEnd<'_> {
+    /// Whether no XA transaction waits there.
+    pub(crate) fn is_settled(&self) -> bool
+        ensures { result ≡ true → map waiting_value self.now.waiting.items ≡ [] }
+    {
+        self.waiting.is_empty()
+    }
+
+    /// Nothing waits there that changes anything, where this is the end of the last file, the one before this place.
+    pub(crate) fn settle(&self, file: usize) -> Result<(), StreamError>
+        ensures { Stills (none_waits file (map waiting_value self.now.waiting.items)) result }
+    {
+        match none_waits(file, &self.waiting) {
+            Ok(()) => Ok(()),
+            Err(error) => Err(at_end(self.read, error)),
+        }
+    }
 }
 
 /// A copy of a position.
@@ -90,7 +123,7 @@ pub(crate) fn of_change(file: usize, error: ChangeError) -> LogsError
 }
 
 /// Nothing waits that changes anything behind the last file, which is the one before this place.
-pub(crate) fn none_waits(file: usize, waiting: &[Waiting<'_>]) -> Result<(), LogsError>
+fn none_waits(file: usize, waiting: &[Waiting<'_>]) -> Result<(), LogsError>
     ensures { GivesUnless meant (λ x. x) result (none_waits file (map waiting_value waiting.now)) }
 {
     if any_waits(waiting) {
@@ -165,24 +198,55 @@ impl<'t, 'w> Transcript<'t, 'w> {
         }
     }
 
-    /// Appends the messages of the transactions of the file at a place, and answers what waits behind it.
-    fn put_groups<'b>(
+    /// Tells the next transaction of the file at a place, if there is one, and answers that.
+    fn send_next<W: Out>(
         &mut self,
         alloc: Global,
-        out: &mut Vec<u8>,
+        out: &mut W,
+        outgoing: &mut Outgoing,
         file: usize,
+        bytes: &[u8],
+        groups: &mut LogGroups<'_, '_>,
+    ) -> Result<bool, StreamError>
+        ensures told { PutsOne (course_told file self.old.source groups.old.groups self.old.far) (course_told file self.old.source groups.new.groups self.new.far) self.new.far (length groups.old.groups.items) (length groups.new.groups.items) result (sending (W.written out.old) outgoing.old) (sending (W.written out.new) outgoing.new) }
+        ensures waiting { KeepsWaiting groups.old result groups.new }
+        ensures source { self.new.source ≡ self.old.source }
+    {
+        let begin = bytes_read(bytes, groups);
+        let more = match self.put_next(alloc, &mut outgoing.waits, file, groups) {
+            Ok(more) => more,
+            Err(error) => return Err(inside(bytes, begin, bytes_read(bytes, groups), error)),
+        };
+        match outgoing.send_portion(out) {
+            Ok(()) => Ok(more),
+            Err(error) => Err(error),
+        }
+    }
+
+    /// Tells the transactions of the file at a place, which has these bytes, and answers its end.
+    fn send_groups<'b, W: Out>(
+        &mut self,
+        alloc: Global,
+        out: &mut W,
+        outgoing: &mut Outgoing,
+        file: usize,
+        bytes: &[u8],
         groups: LogGroups<'_, 'b>,
-    ) -> Result<Vec<Waiting<'b>>, LogsError>
-        ensures told { GivesUnless meant (λ _. (out.new.items, self.new.far)) result (with_messages (course_told file self.old.source groups.entry.groups self.old.far) out.old.items) }
-        ensures waiting { IfOk result (λ waiting. map waiting_value waiting.items ≡ groups.entry.waiting) }
+    ) -> Result<LogEnd<'b>, StreamError>
+        ensures told { Puts (course_told file self.old.source groups.entry.groups self.old.far) self.new.far result (sending (W.written out.old) outgoing.old) (sending (W.written out.new) outgoing.new) }
+        ensures waiting { IfOk result (λ end. map waiting_value end.waiting.items ≡ groups.entry.waiting) }
         ensures source { self.new.source ≡ self.old.source }
     {
         let mut groups = groups;
         loop {
-            match self.put_next(alloc, out, file, &mut groups) {
+            match self.send_next(alloc, out, outgoing, file, bytes, &mut groups) {
                 Ok(more) => {
                     if !more {
-                        return Ok(groups.into_waiting());
+                        let read = bytes_read(bytes, &groups);
+                        return Ok(LogEnd {
+                            waiting: groups.into_waiting(),
+                            read,
+                        });
                     }
                 }
                 Err(error) => return Err(error),
@@ -190,68 +254,152 @@ impl<'t, 'w> Transcript<'t, 'w> {
         }
     }
 
-    /// Appends the messages of the file at a place, where these XA transactions wait before it, and answers what waits
-    /// behind it.
-    fn put_log<'b>(
+    /// Tells the file at a place, where these XA transactions wait before it, and answers its end.
+    fn send_log<'b, W: Out>(
         &mut self,
         alloc: Global,
-        out: &mut Vec<u8>,
+        out: &mut W,
+        outgoing: &mut Outgoing,
         table: &CrcTable,
         file: usize,
         waiting: Vec<Waiting<'b>>,
         bytes: &'b [u8],
-    ) -> Result<Vec<Waiting<'b>>, LogsError>
-        ensures told { GivesUnless meant (λ left. ((out.new.items, self.new.far), map waiting_value left.items)) result (with_waiting (log_told file self.old.source (map waiting_value waiting.entry.items) bytes.now self.old.far) out.old.items) }
+    ) -> Result<LogEnd<'b>, StreamError>
+        ensures told { PutsLog (log_told file self.old.source (map waiting_value waiting.entry.items) bytes.now self.old.far) (λ end. map waiting_value end.waiting.items) self.new.far result (sending (W.written out.old) outgoing.old) (sending (W.written out.new) outgoing.new) }
         ensures source { self.new.source ≡ self.old.source }
     {
         let reached = copy_of(alloc, &self.reached)?;
         match LogGroups::open(alloc, table, reached, waiting, bytes) {
-            Ok(groups) => self.put_groups(alloc, out, file, groups),
-            Err(error) => Err(of_course(file, error)),
+            Ok(groups) => self.send_groups(alloc, out, outgoing, file, bytes, groups),
+            Err(error) => Err(at_begin(bytes, of_course(file, error))),
         }
     }
 
-    /// Appends the messages of files.
-    fn put_logs(
+    /// Tells the file at a place, which has these bytes, where these XA transactions wait before it; and those behind it while
+    /// something waits, so that the bytes to which it refers stay there. Answers the place behind them.
+    #[cycle(send)]
+    fn send_bytes<'b, L: LogFiles, W: Out>(
         &mut self,
         alloc: Global,
-        out: &mut Vec<u8>,
+        out: &mut W,
+        outgoing: &mut Outgoing,
         table: &CrcTable,
-        logs: &[&[u8]],
-    ) -> Result<(), LogsError>
-        ensures told { GivesUnless meant (λ x. (out.new.items, self.new.far)) result (with_messages (logs_told 0 self.old.source [] (map (λ log. log.now) logs.now) self.old.far) out.old.items) }
+        files: &L,
+        file: usize,
+        waiting: Vec<Waiting<'b>>,
+        bytes: &'b [u8],
+    ) -> Result<usize, StreamError>
+        requires { file < L.many files.now }
+        ensures told { PutsSpan (λ logs. logs_told file self.old.source (map waiting_value waiting.entry.items) (bytes.now ∷ logs) self.old.far) (λ at left logs far. logs_told at self.old.source left logs far) (L.gives files.now) (file + 1) (L.many files.now) self.new.far result (sending (W.written out.old) outgoing.old) (sending (W.written out.new) outgoing.new) }
+        ensures more { IfOk result (λ next. file < next) }
+        ensures within { IfOk result (λ next. next ≤ L.many files.now) }
         ensures source { self.new.source ≡ self.old.source }
     {
-        let mut waiting = Vec::new(alloc);
-        for file in 0..logs.len() {
-            match self.put_log(alloc, out, table, file, waiting, logs[file]) {
-                Ok(left) => waiting = left,
+        let count = files.count();
+        let end = match self.send_log(alloc, out, outgoing, table, file, waiting, bytes) {
+            Ok(end) => end,
+            Err(error) => return Err(error),
+        };
+        let next = file + 1;
+        if end.is_settled() {
+            return Ok(next);
+        }
+        if next < count {
+            return self.send_file(alloc, out, outgoing, table, files, next, end.waiting);
+        }
+        match end.settle(next) {
+            Ok(()) => Ok(next),
+            Err(error) => Err(error),
+        }
+    }
+
+    /// Reads the file at a place, and tells it and those behind it while something waits. Answers the place behind them.
+    #[cycle(send)]
+    fn send_file<L: LogFiles, W: Out>(
+        &mut self,
+        alloc: Global,
+        out: &mut W,
+        outgoing: &mut Outgoing,
+        table: &CrcTable,
+        files: &L,
+        file: usize,
+        waiting: Vec<Waiting<'_>>,
+    ) -> Result<usize, StreamError>
+        requires { file < L.many files.now }
+        ensures told { PutsSpan (λ logs. logs_told file self.old.source (map waiting_value waiting.entry.items) logs self.old.far) (λ at left logs far. logs_told at self.old.source left logs far) (L.gives files.now) file (L.many files.now) self.new.far result (sending (W.written out.old) outgoing.old) (sending (W.written out.new) outgoing.new) }
+        ensures more { IfOk result (λ next. file < next) }
+        ensures within { IfOk result (λ next. next ≤ L.many files.now) }
+        ensures source { self.new.source ≡ self.old.source }
+    {
+        match files.read(file) {
+            Ok(log) => self.send_bytes(
+                alloc,
+                out,
+                outgoing,
+                table,
+                files,
+                file,
+                waiting,
+                log.as_slice(),
+            ),
+            Err(ReadFault::Memory) => Err(StreamError::Memory),
+            Err(ReadFault::Unread) => Err(StreamError::Unread(file)),
+        }
+    }
+
+    /// Reads the files one at a time, or more of them while something waits, and tells them.
+    fn send_files<L: LogFiles, W: Out>(
+        &mut self,
+        alloc: Global,
+        out: &mut W,
+        outgoing: &mut Outgoing,
+        table: &CrcTable,
+        files: &L,
+    ) -> Result<(), StreamError>
+        ensures told { PutsFiles (λ logs. logs_told 0 self.old.source [] logs self.old.far) (L.gives files.now) 0 (L.many files.now) self.new.far result (sending (W.written out.old) outgoing.old) (sending (W.written out.new) outgoing.new) }
+        ensures source { self.new.source ≡ self.old.source }
+    {
+        let mut file = 0;
+        while file < files.count() {
+            let waiting = Vec::new(alloc);
+            match self.send_file(alloc, out, outgoing, table, files, file, waiting) {
+                Ok(next) => file = next,
                 Err(error) => return Err(error),
             }
         }
-        none_waits(logs.len(), &waiting)
+        Ok(())
     }
 
-    /// The bytes with the message of the position that was reached, where it isn't said, behind them; `file` is the place
-    /// behind the last file.
-    pub(crate) fn with_last(
+    /// Tells the position that was reached, where it isn't said, and writes all that waits; `file` is the place behind the last
+    /// file.
+    pub(crate) fn send_end<W: Out>(
         &self,
         alloc: Global,
-        out: Vec<u8>,
+        out: &mut W,
+        outgoing: &mut Outgoing,
         file: usize,
-    ) -> Result<Vec<u8>, LogsError>
-        ensures { GivesUnless meant (λ all. all.items) result (of_tell file (last_with (last_told self.now.source self.now.far) out.items)) }
+    ) -> Result<(), StreamError>
+        ensures { PutsEnd (of_tell file (last_told self.now.source self.now.far)) result (sending (W.written out.old) outgoing.old) (sending (W.written out.new) outgoing.new) }
     {
-        let mut out = out;
+        match self.put_end(alloc, &mut outgoing.waits, file) {
+            Ok(()) => outgoing.send(out),
+            Err(error) => Err(nowhere(error)),
+        }
+    }
+
+    /// Appends the message of the position that was reached, where it isn't said.
+    fn put_end(&self, alloc: Global, out: &mut Vec<u8>, file: usize) -> Result<(), LogsError>
+        ensures { GivesUnless meant (λ x. out.new.items) result (of_tell file (last_with (last_told self.now.source self.now.far) out.old.items)) }
+    {
         match put_last(
             alloc,
-            &mut out,
+            out,
             self.keyspace,
             self.shard,
             &self.reached,
             self.said,
         ) {
-            Ok(()) => Ok(out),
+            Ok(()) => Ok(()),
             Err(error) => Err(of_tell(file, error)),
         }
     }
@@ -283,28 +431,62 @@ fn nothing<'t, 'w>(
     })
 }
 
-/// The messages of the feed of logs, of any length.
-fn written_of(
+/// What is told of files, of any length, and how many bytes that is.
+fn told_of<L: LogFiles, W: Out>(
     alloc: Global,
     source: FeedSource<'_, '_>,
-    logs: &[&[u8]],
-) -> Result<Vec<u8>, LogsError>
-    ensures { GivesUnless meant (λ feed. feed.items) result (bytes_told (feed_told (source_value source.entry) (map (λ log. log.now) logs.now))) }
+    files: &L,
+    out: &mut W,
+) -> Result<usize, StreamError>
+    ensures { TellsAll (λ logs. feed_told (source_value source.entry) logs) (L.gives files.now) 0 (L.many files.now) result (W.written out.old) (W.written out.new) }
 {
     let table = CrcTable::new(alloc)?;
     let mut transcript = nothing(alloc, source)?;
-    let mut out = Vec::new(alloc);
-    match transcript.put_logs(alloc, &mut out, &table, logs) {
-        Ok(()) => transcript.with_last(alloc, out, logs.len()),
+    let mut outgoing = Outgoing::new(alloc);
+    if let Err(error) = transcript.send_files(alloc, out, &mut outgoing, &table, files) {
+        return Err(error);
+    }
+    match transcript.send_end(alloc, out, &mut outgoing, files.count()) {
+        Ok(()) => Ok(outgoing.sent),
         Err(error) => Err(error),
     }
 }
 
-/// The feed of logs, one file behind another: a message for each transaction that has rows of the feed's tables, and at the end
-/// one for the position that was reached, where the last message has another. Each log is the bytes of a whole file; the first
-/// one has to begin with no position. An XA transaction may be prepared in one and end in another. An error is the first fault of the logs, with its file and, where it is of one, its
-/// table; behind all of them that the feed would be too long; or want of memory. Takes memory for the feed and for one
-/// transaction at a time.
+/// The feed of logs, whose files are read one at a time, as it is written on `out`: a message for each transaction that has rows
+/// of the feed's tables, and at the end one for the position that was reached, where the last message has another. Each file is
+/// a whole log; the first one has to begin with no position. An error is the first fault of the logs, with its file and, where
+/// it is of one, its table; behind all of them that the feed would be too long; the first file that can't be read; that a write
+/// failed; or want of memory. What was written before is of no use then. An XA transaction may be prepared in one file and end in
+/// another. Takes memory for one file, or for all from the first one behind which one waits, until none does; for one
+/// transaction, and 64 KiB of what is told.
+pub fn transcribe_to<L: LogFiles, W: Out>(
+    alloc: Global,
+    source: FeedSource<'_, '_>,
+    files: &L,
+    out: &mut W,
+) -> Result<(), StreamError>
+    // The groups of the feed are just the transactions of the logs that have rows of its tables.
+    ensures { EndsSo (λ logs. of_logs (feed_of_logs (source_value source.entry) logs)) (λ logs feed. IsSource (source_value source.entry) → IsFeedOfLogs (source_value source.entry) logs feed) (L.gives files.now) (L.many files.now) result (W.written out.old) (W.written out.new) }
+{
+    transactions_are_told();
+    transactions_reach();
+    ends_are_told();
+    courses_rise();
+    messages_are_read();
+    feeds_have_their_groups();
+    courses_are_read();
+    let size = match told_of(alloc, source, files, out) {
+        Ok(size) => size,
+        Err(error) => return Err(error),
+    };
+    if size < LIMIT {
+        return Ok(());
+    }
+    Err(StreamError::Fault(LogsFault::TooLong(files.count()), None))
+}
+
+/// The feed of logs that are in memory, as `transcribe_to` writes it: each is the bytes of a whole file. An error is its fault,
+/// or want of memory. Takes memory for the feed and for one transaction at a time.
 pub fn transcribe(
     alloc: Global,
     source: FeedSource<'_, '_>,
@@ -314,19 +496,19 @@ pub fn transcribe(
     // The groups of the feed are just the transactions of the logs that have rows of its tables.
     ensures right { IfOk result (λ feed. IsSource (source_value source.entry) → IsFeedOfLogs (source_value source.entry) (map (λ log. log.now) logs.now) feed.items) }
 {
-    transactions_are_told();
-    transactions_reach();
-    ends_are_told();
-    courses_rise();
-    messages_are_read();
-    feeds_have_their_groups();
-    courses_are_read();
-    let feed = match written_of(alloc, source, logs) {
-        Ok(feed) => feed,
-        Err(error) => return Err(error),
-    };
-    if feed.len() < LIMIT {
-        return Ok(feed);
+    let mut spool = Spool::new(alloc);
+    match transcribe_to(alloc, source, &LentLogs { logs }, &mut spool) {
+        Ok(()) => Ok(spool.into_bytes()),
+        Err(error) => Err(of_stream(error)),
     }
-    Err(LogsError::Fault(LogsFault::TooLong(logs.len())))
+}
+
+/// What is wrong with logs that are in memory.
+fn of_stream(error: StreamError) -> LogsError
+    ensures { result ≡ logs_error_of error }
+{
+    match error {
+        StreamError::Fault(fault, _) => LogsError::Fault(fault),
+        _ => LogsError::Memory,
+    }
 }

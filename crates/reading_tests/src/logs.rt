@@ -11,3 +11,4 @@ mod tables;
 mod transcribe;
 mod values;
 mod waiting;
+mod xa;

@@ -1,33 +1,57 @@
 //! The subcommand `transcribe` over files.
 
-ghost use Rattle.std.specs.Prelude.{◌≡◌, ◌≤◌, IfErr, IfOk};
-ghost use Rattle.vrepl.specs.Transcribed.{IsTranscribeAsked, inputs_named};
-ghost use Rattle.vrepl_main.specs.Inputs.{IsUnreadAmong};
+ghost use Rattle.std.specs.Prelude.{◌≡◌, ◌≤◌, IfErr, IfOk, IfSome, length, slice_get};
+ghost use Rattle.vrepl.specs.Transcribed.{IsTranscribeAsked, SaysUnread, SaysUnwritten, inputs_named};
+ghost use Rattle.vrepl_main.specs.Inputs.{IsUnread, IsUnreadAmong};
+ghost use Rattle.vrepl_main.specs.declared.input.InputName.TheVariants.{File};
 
-use crate::keeping::{Keeping, keep, misnamed, place_of};
+use crate::keeping::{Keeping, misnamed, place_of, unkept};
+use kept_file::Place;
+use log_transcribe::{LogBytes, LogFiles, ReadFault};
 use printing::{Writer, put_all};
 use std::alloc::{AllocError, Global};
-use vrepl_main::{CommandRefusal, InputName, Untold, read_inputs, run_inputs};
-use vrepl_transcribe::{TranscribeEnd, TranscribeInputs, Untranscribed, transcribe, transcribed};
+use vrepl_main::{CommandRefusal, InputName, Source, Untold, read_input, read_inputs, run_inputs};
+use vrepl_transcribe::{TranscribeEnd, TranscribeInputs, Untranscribed, transcribe, transcribe_to};
 use vrepl_words::words::Transcribe;
 
-/// The inputs that the words name: the workflow's file, the logs' in their order, and the feed's, if it is named.
-fn inputs_named<'w>(alloc: Global, words: &Transcribe<'w>) -> Result<Vec<InputName<'w>>, AllocError>
+/// The logs' files of these names.
+#[derive(Drop)]
+struct NamedLogs<'r, 'n, 'w, R: Source> {
+    rt: &'r R,
+    names: &'n [&'w str],
+}
+
+impl<R: Source> LogFiles for NamedLogs<'_, '_, '_, R> {
+    // Each is read under its own name.
+    ghost gives = { λ l file bytes. IfSome (slice_get l.names.now file) (λ name. R.gives l.rt.now (File name) bytes) };
+
+    ghost many = { λ l. length l.names.now };
+
+    fn count(&self) -> usize {
+        self.names.len()
+    }
+
+    fn read(&self, file: usize) -> Result<LogBytes<'_>, ReadFault> {
+        let Some(name) = self.names.get(file) else {
+            return Err(ReadFault::Unread);
+        };
+        match read_input(self.rt, &Untold, InputName::File(*name)) {
+            Ok(bytes) => Ok(LogBytes::Read(bytes)),
+            Err(CommandRefusal::Memory) => Err(ReadFault::Memory),
+            Err(_) => Err(ReadFault::Unread),
+        }
+    }
+}
+
+/// The inputs that are read before the logs: the workflow's file, and the feed's, if it is named.
+fn first_inputs<'w>(alloc: Global, words: &Transcribe<'w>) -> Result<Vec<InputName<'w>>, AllocError>
     ensures { IfOk result (λ names. names.items ≡ inputs_named words.now) }
 {
-    let mut names = run_inputs(alloc, words.workflow, &words.logs)?;
+    let mut names = run_inputs(alloc, words.workflow, &[])?;
     if let Some(feed) = words.after {
         names.push(InputName::File(feed))?;
     }
     Ok(names)
-}
-
-/// The last of what was read, taken off.
-fn last_of(alloc: Global, read: &mut Vec<Vec<u8>>) -> Vec<u8> {
-    match read.pop() {
-        Some(last) => last,
-        None => Vec::new(alloc),
-    }
 }
 
 /// Reads them.
@@ -38,11 +62,11 @@ fn read_transcribe<'n, 'w>(
     ensures asked { IfOk result (IsTranscribeAsked words.entry.now) }
     ensures unread { IfErr result (IsUnreadAmong (inputs_named words.entry.now)) }
 {
-    let inputs = inputs_named(rt.alloc(), words)?;
-    let mut logs = read_inputs(rt, &Untold, &inputs)?;
-    let workflow = logs.remove(0);
+    let inputs = first_inputs(rt.alloc(), words)?;
+    let mut read = read_inputs(rt, &Untold, &inputs)?;
+    let workflow = read.remove(0);
     let after = match words.after {
-        Some(_) => Some(last_of(rt.alloc(), &mut logs)),
+        Some(_) => Some(last_of(rt.alloc(), &mut read)),
         None => None,
     };
     Ok(TranscribeInputs {
@@ -51,16 +75,43 @@ fn read_transcribe<'n, 'w>(
         after,
         workflow,
         names: &words.logs,
-        logs,
     })
 }
 
-/// The refusal for which there is no feed; the status 1 behind a line of its own.
-fn refusal_of<'w>(rt: &HostRuntime, why: Untranscribed) -> Result<u8, CommandRefusal<'w>>
+/// The last of what was read, taken off.
+fn last_of(alloc: Global, read: &mut Vec<Vec<u8>>) -> Vec<u8> {
+    match read.pop() {
+        Some(last) => last,
+        None => Vec::new(alloc),
+    }
+}
+
+/// The refusal of the log at a place, which can't be read.
+fn unread<'w>(names: &[&'w str], file: usize) -> CommandRefusal<'w>
+    ensures { IfSome (slice_get names.now file) (λ name. IsUnread name.now result) }
+{
+    match names.get(file) {
+        Some(name) => CommandRefusal::CannotRead { file: *name },
+        None => CommandRefusal::Memory,
+    }
+}
+
+/// The refusal for which the feed of the logs of these names isn't in the file of this name; the status 1 behind a line of its
+/// own.
+fn refusal_of<'w>(
+    rt: &HostRuntime,
+    names: &[&'w str],
+    file: &'w str,
+    why: Untranscribed,
+) -> Result<u8, CommandRefusal<'w>>
     ensures status { IfOk result (λ status. status ≡ 1) }
+    ensures unread { SaysUnread names.now why result }
+    ensures unwritten { SaysUnwritten file.now why result }
 {
     match why {
         Untranscribed::Memory => Err(CommandRefusal::Memory),
+        Untranscribed::Unwritten => Err(CommandRefusal::CannotWrite { file }),
+        Untranscribed::Unread(place) => Err(unread(names, place)),
         Untranscribed::Workflow(fault) => Err(CommandRefusal::from(fault)),
         Untranscribed::NoStream => Err(CommandRefusal::NoStream),
         Untranscribed::Feed(fault) => Err(CommandRefusal::from(fault)),
@@ -76,17 +127,21 @@ fn transcribe_out<'w>(rt: &HostRuntime, words: &Transcribe<'w>) -> Result<u8, Co
     ensures status { IfOk result (λ status. status ≤ 1) }
 {
     let inputs = read_transcribe(rt, words)?;
+    let logs = NamedLogs {
+        rt,
+        names: &words.logs,
+    };
     let (mut out, mut err) = (Writer::new(rt.stdout()), Writer::new(rt.stderr()));
-    match transcribe(rt.alloc(), &inputs, &mut out, &mut err) {
+    match transcribe(rt.alloc(), inputs, &logs, &mut out, &mut err) {
         TranscribeEnd::Written => Ok(0),
         TranscribeEnd::Unwritten => Err(CommandRefusal::CannotWrite { file: "-" }),
         TranscribeEnd::Told => Ok(1),
-        TranscribeEnd::Refused(why) => refusal_of(rt, why),
+        TranscribeEnd::Refused(why) => refusal_of(rt, &words.logs, "-", why),
     }
 }
 
 /// `transcribe` into the file of this name, which is looked at before any is read.
-fn transcribe_to<'w>(
+fn transcribe_to_file<'w>(
     rt: &HostRuntime,
     words: &Transcribe<'w>,
     file: &'w str,
@@ -107,12 +162,37 @@ fn transcribe_to<'w>(
         }
     }
     let inputs = read_transcribe(rt, words)?;
-    match transcribed(rt.alloc(), &inputs) {
-        Ok(feed) => {
-            keep(rt, &place, file, &feed)?;
-            Ok(0)
+    transcribe_beside(rt, words, inputs, &place, file)
+}
+
+/// The same of what was read before the logs: writes the feed as it is made to a file beside a place, which is put there once
+/// it is whole, or taken away.
+fn transcribe_beside<'w>(
+    rt: &HostRuntime,
+    words: &Transcribe<'w>,
+    inputs: TranscribeInputs<'_, 'w>,
+    place: &Place,
+    file: &'w str,
+) -> Result<u8, CommandRefusal<'w>>
+    ensures status { IfOk result (λ status. status ≤ 2) }
+{
+    let draft = match place.begin(rt) {
+        Ok(draft) => draft,
+        Err(fault) => return Err(unkept(file, fault)),
+    };
+    let logs = NamedLogs {
+        rt,
+        names: &words.logs,
+    };
+    match transcribe_to(rt.alloc(), inputs, &logs, &mut Writer::new(draft.file())) {
+        Ok(()) => match place.end(rt, draft) {
+            Ok(()) => Ok(0),
+            Err(fault) => Err(unkept(file, fault)),
+        },
+        Err(why) => {
+            draft.remove(rt);
+            refusal_of(rt, &words.logs, file, why)
         }
-        Err(why) => refusal_of(rt, why),
     }
 }
 
@@ -124,7 +204,7 @@ pub(crate) fn run_transcribe<'w>(
     ensures status { IfOk result (λ status. status ≤ 2) }
 {
     match words.save_to {
-        Some(file) => transcribe_to(rt, words, file),
+        Some(file) => transcribe_to_file(rt, words, file),
         None => transcribe_out(rt, words),
     }
 }

@@ -1,5 +1,5 @@
 -- The feed that `transcribe` makes of logs, or why there is none; and how the command ends (this profile).
-use Rattle.std.specs.Prelude.{◌≡◌, ◌⊎◌, ℕ, List, [], ◌∷◌, ◌++◌, codes, decimal, map, option_map, Option, None, Some, IfSome, Result, Ok, Err, slice_get}
+use Rattle.std.specs.Prelude.{◌≡◌, ◌⊎◌, ℕ, ◌+◌, List, [], ◌∷◌, ◌++◌, length, codes, decimal, map, option_map, Option, None, Some, IfSome, Result, Ok, Err, slice_get}
 use Rattle.std.specs.Option.{option_map_or}
 use Rattle.list_laws.specs.Outcome.{◌>>=◌}
 use Rattle.filter_rule.specs.Faults as plans
@@ -11,13 +11,14 @@ use Rattle.log_laws.specs.Source.{SourceTables}
 use Rattle.log_laws.specs.declared.fault.TellFault.TheVariants.{Change}
 use Rattle.log_transcribe.specs.Fault.{number_of, file_of}
 use Rattle.log_transcribe.specs.Feed.{IsFeedOfLogs}
+use Rattle.log_transcribe.specs.Files.{GaveFrom}
+use Rattle.log_transcribe.specs.Streamed.{IsUnreadAt}
 use Rattle.log_transcribe.specs.Transcript.{feed_of_logs}
 use Rattle.log_transcribe.specs.Behind.{behind_of_logs}
 use Rattle.log_transcribe.specs.Further.{IsFeedBehind}
 use Rattle.log_transcribe.specs.declared.fault.BehindFault.{BehindFault}
 use Rattle.log_transcribe.specs.declared.fault.BehindFault.TheVariants.{Feed, Logs}
 use Rattle.source_feed.specs.declared.fault.FeedFault.{FeedFault}
-use Rattle.source_feed.specs.FaultNumber as feeds
 use Rattle.log_transcribe.specs.declared.fault.LogsFault.{LogsFault}
 use Rattle.log_transcribe.specs.declared.fault.LogsFault.TheVariants.{Tell}
 use Rattle.printing.specs.Printing.{Written, IsWritten, BreaksOff}
@@ -40,9 +41,9 @@ pub record AskedValue : Type 0 where
   pub names : List (List ℕ)
   pub logs : List (List ℕ)
 
--- those of the program
-abbrev pub asked_of : TranscribeInputs → AskedValue
-asked_of inputs = record { shard = inputs.shard.now; schema = option_map (λ name. name.now) inputs.schema; after = option_map (λ feed. feed.items) inputs.after; workflow = inputs.workflow.items; names = map (λ name. name.now) inputs.names.now; logs = map (λ log. log.items) inputs.logs.items }
+-- those of the program, where the files of the logs gave these bytes
+abbrev pub asked_of : TranscribeInputs → List (List ℕ) → AskedValue
+asked_of inputs logs = record { shard = inputs.shard.now; schema = option_map (λ name. name.now) inputs.schema; after = option_map (λ feed. feed.items) inputs.after; workflow = inputs.workflow.items; names = map (λ name. name.now) inputs.names.now; logs = logs }
 
 -- ---- the feed, as a function
 
@@ -130,40 +131,64 @@ abbrev pub logs_line : List (List ℕ) → List feed.TableValue → LogsFault �
 logs_line names tables fault byte = line_of (number_of fault) (file_text names (file_of fault) ++ byte_text byte ++ table_text tables fault)
 
 -- the line that says why not, where it is of a table's name or of the logs; which byte it names in these isn't said here
-abbrev pub SaysWhy : AskedValue → WhyNot → List ℕ → Type 0
-SaysWhy a (unplain_name name) line = line ≡ line_of 148 (codes " table " ++ name)
-SaysWhy a (unread_logs s fault) line = (byte : Option ℕ) × (line ≡ logs_line a.names s.tables fault byte)
-SaysWhy a why line = ⊥
+abbrev pub SaysWhy : List (List ℕ) → WhyNot → List ℕ → Type 0
+SaysWhy names (unplain_name name) line = line ≡ line_of 148 (codes " table " ++ name)
+SaysWhy names (unread_logs s fault) line = (byte : Option ℕ) × (line ≡ logs_line names s.tables fault byte)
+SaysWhy names why line = ⊥
 
--- ---- what is answered
+-- the names of the program's inputs
+abbrev pub names_of : TranscribeInputs → List (List ℕ)
+names_of inputs = map (λ name. name.now) inputs.names.now
 
--- why there is no feed, which is the definition's reason, unless it is want of memory
-abbrev pub IsWhy : AskedValue → Untranscribed → Type 0
-IsWhy a unmade.Memory = Unit {0}
-IsWhy a (unmade.Workflow fault) = IfSome (plans.definition_fault_of fault) (λ f. feed_asked a ≡ Err (unread_workflow f))
-IsWhy a unmade.NoStream = feed_asked a ≡ Err no_stream
-IsWhy a (unmade.Feed fault) = IfSome (feeds.meant_of fault) (λ f. feed_asked a ≡ Err (unread_feed f))
-IsWhy a (unmade.Line line) = (why : WhyNot) × (feed_asked a ≡ Err why) × SaysWhy a why line.items
+-- ---- what is answered, of files that are read one at a time
 
--- the feed of the definition, or why there is none
-abbrev pub Answers : AskedValue → Result (List ℕ) Untranscribed → Type 0
-Answers a (Ok feed) = feed_asked a ≡ Ok feed
-Answers a (Err why) = IsWhy a why
+-- All so many files gave bytes, and this is done with the feed of these, which is right.
+pub record IsMadeOf (inputs : TranscribeInputs) (Gives : ℕ → List ℕ → Type 0) (many : ℕ) (IsDone : List ℕ → Type 0) : Type 0 where
+  pub logs : List (List ℕ)
+  pub gave : GaveFrom Gives 0 logs
+  pub all : length logs ≡ many
+  pub feed : List ℕ
+  pub made : feed_asked (asked_of inputs logs) ≡ Ok feed
+  pub right : IsTranscribed (asked_of inputs logs) feed
+  pub done : IsDone feed
+
+-- By the bytes that the first of so many files gave there is no feed, for this reason, whatever the others have.
+pub record IsNotMade (inputs : TranscribeInputs) (Gives : ℕ → List ℕ → Type 0) (many : ℕ) (why : WhyNot) : Type 0 where
+  pub logs : List (List ℕ)
+  pub gave : GaveFrom Gives 0 logs
+  pub is : (others : List (List ℕ)) → length logs + length others ≡ many → feed_asked (asked_of inputs (logs ++ others)) ≡ Err why
+
+-- why there is no feed, which is the definition's reason, or that a file can't be read; unless it is want of memory
+abbrev pub IsWhy : TranscribeInputs → (ℕ → List ℕ → Type 0) → ℕ → Untranscribed → Type 0
+IsWhy inputs Gives many unmade.Memory = Unit {0}
+IsWhy inputs Gives many unmade.Unwritten = ⊥
+IsWhy inputs Gives many (unmade.Unread file) = IsUnreadAt Gives many file
+IsWhy inputs Gives many (unmade.Workflow fault) = IfSome (plans.definition_fault_of fault) (λ f. IsNotMade inputs Gives many (unread_workflow f))
+IsWhy inputs Gives many unmade.NoStream = IsNotMade inputs Gives many no_stream
+IsWhy inputs Gives many (unmade.Feed fault) = IsNotMade inputs Gives many (unread_feed fault)
+IsWhy inputs Gives many (unmade.Line line) = (why : WhyNot) × IsNotMade inputs Gives many why × SaysWhy (names_of inputs) why line.items
+
+-- the feed was written; or a write failed; or there is none
+abbrev pub WritesAll : TranscribeInputs → (ℕ → List ℕ → Type 0) → ℕ → Result (Unit {0}) Untranscribed → Written → Written → Type 0
+WritesAll inputs Gives many (Ok x) old new = IsMadeOf inputs Gives many (IsWritten old new)
+WritesAll inputs Gives many (Err unmade.Unwritten) old new = (text : List ℕ) × BreaksOff old new text
+WritesAll inputs Gives many (Err why) old new = IsWhy inputs Gives many why
+
+-- this is the feed, or there is none
+abbrev pub MakesAll : TranscribeInputs → (ℕ → List ℕ → Type 0) → ℕ → Result (List ℕ) Untranscribed → Type 0
+MakesAll inputs Gives many (Ok feed) = IsMadeOf inputs Gives many (λ made. made ≡ feed)
+MakesAll inputs Gives many (Err why) = IsWhy inputs Gives many why
 
 -- ---- how the command ends
 
--- such a feed is there, and was printed
-abbrev pub PrintsFeed : AskedValue → (List ℕ → Type 0) → Type 0
-PrintsFeed a IsPrinted = (feed : List ℕ) × (feed_asked a ≡ Ok feed) × IsTranscribed a feed × IsPrinted feed
-
 -- the line was printed whole, or a beginning of it and then a write failed
-abbrev pub PrintsLine : AskedValue → Written → Written → Type 0
-PrintsLine a old new = (why : WhyNot) × (line : List ℕ) × (feed_asked a ≡ Err why) × SaysWhy a why line × (IsWritten old new line ⊎ BreaksOff old new line)
+abbrev pub PrintsLine : TranscribeInputs → (ℕ → List ℕ → Type 0) → ℕ → Written → Written → Type 0
+PrintsLine inputs Gives many old new = (why : WhyNot) × (line : List ℕ) × IsNotMade inputs Gives many why × SaysWhy (names_of inputs) why line × (IsWritten old new line ⊎ BreaksOff old new line)
 
 -- how it ends: the feed was printed whole; or a beginning of it, and then a write failed; or nothing was, since a line says
 -- why not; or since there is another reason, which isn't told yet
-abbrev pub EndsSo : AskedValue → TranscribeEnd → Written → Written → Written → Written → Type 0
-EndsSo a end.Written old new err_old err_new = PrintsFeed a (IsWritten old new) × (err_new ≡ err_old)
-EndsSo a end.Unwritten old new err_old err_new = PrintsFeed a (BreaksOff old new) × (err_new ≡ err_old)
-EndsSo a end.Told old new err_old err_new = (new ≡ old) × PrintsLine a err_old err_new
-EndsSo a (end.Refused why) old new err_old err_new = (new ≡ old) × (err_new ≡ err_old) × IsWhy a why
+abbrev pub EndsSo : TranscribeInputs → (ℕ → List ℕ → Type 0) → ℕ → TranscribeEnd → Written → Written → Written → Written → Type 0
+EndsSo inputs Gives many end.Written old new err_old err_new = IsMadeOf inputs Gives many (IsWritten old new) × (err_new ≡ err_old)
+EndsSo inputs Gives many end.Unwritten old new err_old err_new = IsMadeOf inputs Gives many (BreaksOff old new) × (err_new ≡ err_old)
+EndsSo inputs Gives many end.Told old new err_old err_new = (new ≡ old) × PrintsLine inputs Gives many err_old err_new
+EndsSo inputs Gives many (end.Refused why) old new err_old err_new = (new ≡ old) × (err_new ≡ err_old) × IsWhy inputs Gives many why

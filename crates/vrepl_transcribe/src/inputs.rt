@@ -11,8 +11,6 @@ pub struct TranscribeInputs<'n, 'w> {
     pub after: Option<Vec<u8>>,
     /// The workflow's file.
     pub workflow: Vec<u8>,
-    /// The names of the logs' files.
+    /// The names of the logs' files, which are read one at a time.
     pub names: &'n [&'w str],
-    /// What these files have, in their order.
-    pub logs: Vec<Vec<u8>>,
 }

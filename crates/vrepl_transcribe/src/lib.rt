@@ -3,10 +3,8 @@
 
 mod inputs;
 mod line;
-mod place;
 mod source;
-mod steps;
 mod transcribing;
 
 pub use inputs::TranscribeInputs;
-pub use transcribing::{TranscribeEnd, Untranscribed, transcribe, transcribed};
+pub use transcribing::{TranscribeEnd, Untranscribed, transcribe, transcribe_to};

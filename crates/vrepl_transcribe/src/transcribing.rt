@@ -1,25 +1,27 @@
 //! The command `transcribe`.
 
-ghost use Rattle.std.specs.Prelude.{◌≡◌, ◌⊎◌, IfOk, map, option_map};
+ghost use Rattle.std.specs.Prelude.{◌≡◌, ◌⊎◌, map, option_map};
 ghost use Rattle.std.specs.Arc.{arc_value};
 ghost use Rattle.std.specs.Option.{option_map_or};
 ghost use Rattle.std.specs.Result.{result_map_both};
 ghost use Rattle.log_laws.specs.Source.{IsSource};
 ghost use Rattle.log_transcribe.specs.Transcript.{source_value};
 ghost use Rattle.printing.specs.Printing.{IsWritten, BreaksOff};
-ghost use Rattle.vrepl_transcribe.specs.Source.{plan_of_shard, source_in};
-ghost use Rattle.vrepl_transcribe.specs.Transcribed.{Answers, asked_of, EndsSo, IsMade, IsTranscribed};
-ghost use Rattle.vrepl_transcribe.specs.Private.Steps.{AnswersLogs, GivesMade, AnswersNames, AnswersUnder, PrintsAll, SaysFault};
+ghost use Rattle.vrepl_transcribe.specs.Source.{plan_of_shard};
+ghost use Rattle.log_feed.specs.Table.{table_value};
+ghost use Rattle.log_transcribe.specs.Streamed.{EndsSo as StreamEnds};
+ghost use Rattle.vrepl_transcribe.specs.Transcribed.{EndsSo, IsMade, MakesAll, WritesAll};
+ghost use Rattle.vrepl_transcribe.specs.Private.Steps.{AnswersNames, EndsUnder, IsLineOf, IsWhyOf, PrintsAll, made_from};
 ghost use Rattle.vrepl_transcribe.specs.declared.transcribing.TranscribeEnd.TheVariants.{Told};
 
 use crate::inputs::TranscribeInputs;
 use crate::line::{logs_line, name_line};
-use crate::place::place_of;
 use crate::source::{feed_tables_of, first_unplain, place_of_shard};
 use filter_rule::{Plan, PlanFault, Table};
+use log_feed::FeedTable;
 use log_transcribe::{
-    BehindError, BehindFault, FeedSource, LogsError, LogsFault, transcribe as feed_of_logs,
-    transcribe_behind,
+    FeedSource, LogFiles, LogsFault, Spool, StreamError, transcribe_behind_to,
+    transcribe_to as write_feed,
 };
 use printing::{Out, put_all};
 use source_feed::FeedFault;
@@ -31,6 +33,10 @@ use std::sync::Arc;
 pub enum Untranscribed {
     /// Want of memory.
     Memory,
+    /// A write of the feed failed.
+    Unwritten,
+    /// 131: the log's file at this place, from 0, can't be read.
+    Unread(usize),
     /// 51 to 57: the workflow is refused.
     Workflow(PlanFault),
     /// 115: the workflow has no stream of the shard.
@@ -88,136 +94,134 @@ fn names_are_plain(alloc: Global, tables: &[Table]) -> Result<(), Untranscribed>
     }
 }
 
-/// The logs as slices.
-fn slices_of(alloc: Global, logs: &[Vec<u8>]) -> Result<Vec<&[u8]>, AllocError>
-    ensures { IfOk result (λ slices. map (λ log. log.now) slices.items ≡ map (λ log. log.items) logs.entry.now) }
-{
-    let mut slices = Vec::new(alloc);
-    for log in logs {
-        slices.push(log.as_slice())?;
-    }
-    Ok(slices)
-}
-
 /// The line of a fault of the logs.
 fn fault_line(
     alloc: Global,
     names: &[&str],
-    source: FeedSource<'_, '_>,
-    logs: &[&[u8]],
-    after: Option<&[u8]>,
+    tables: &[FeedTable<'_>],
     fault: LogsFault,
-) -> Result<Vec<u8>, AllocError>
-    ensures { IfOk result (λ line. SaysFault (map (λ name. name.now) names.now) (source_value source.entry) fault line.items) }
+    byte: Option<usize>,
+) -> Untranscribed
+    ensures { IsLineOf (map (λ name. name.now) names.now) (map table_value tables.now) fault result }
 {
-    let byte = match after {
-        Some(_) => None,
-        None => place_of(alloc, source, logs, fault)?,
-    };
-    logs_line(alloc, names, source.tables, fault, byte)
-}
-
-/// The feed of logs, or what they have behind one.
-fn made_of(
-    alloc: Global,
-    source: FeedSource<'_, '_>,
-    after: Option<&[u8]>,
-    logs: &[&[u8]],
-) -> Result<Vec<u8>, BehindError>
-    ensures made { GivesMade (source_value source.entry) (option_map (λ feed. feed.now) after.entry) (map (λ log. log.now) logs.now) (result_map_both (λ feed. feed.items) (λ error. error) result) }
-    ensures right { IfOk result (λ feed. IsSource (source_value source.entry) → IsMade (source_value source.entry) (option_map (λ feed. feed.now) after.entry) (map (λ log. log.now) logs.now) feed.items) }
-{
-    match after {
-        Some(feed) => transcribe_behind(alloc, source, feed, logs),
-        None => match feed_of_logs(alloc, source, logs) {
-            Ok(feed) => Ok(feed),
-            Err(LogsError::Memory) => Err(BehindError::Memory),
-            Err(LogsError::Fault(fault)) => Err(BehindError::Fault(BehindFault::Logs(fault))),
-        },
+    match logs_line(alloc, names, tables, fault, byte) {
+        Ok(line) => Untranscribed::Line(line),
+        Err(_) => Untranscribed::Memory,
     }
 }
 
-/// The feed of logs of these names, or what they have behind one, or the line of their first fault.
-fn feed_from(
+/// Why what logs of these names tell isn't written.
+fn why_of(
     alloc: Global,
     names: &[&str],
-    source: FeedSource<'_, '_>,
-    after: Option<&[u8]>,
-    logs: &[&[u8]],
-) -> Result<Vec<u8>, Untranscribed>
-    ensures answers { AnswersLogs (map (λ name. name.now) names.now) (source_value source.entry) (option_map (λ feed. feed.now) after.entry) (map (λ log. log.now) logs.now) (result_map_both (λ feed. feed.items) (λ why. why) result) }
-    ensures right { IfOk result (λ feed. IsSource (source_value source.entry) → IsMade (source_value source.entry) (option_map (λ feed. feed.now) after.entry) (map (λ log. log.now) logs.now) feed.items) }
+    tables: &[FeedTable<'_>],
+    error: StreamError,
+) -> Untranscribed
+    ensures { IsWhyOf (map (λ name. name.now) names.now) (map table_value tables.now) error result }
 {
-    match made_of(alloc, source, after, logs) {
-        Ok(feed) => Ok(feed),
-        Err(BehindError::Memory) => Err(Untranscribed::Memory),
-        Err(BehindError::Fault(BehindFault::Feed(fault))) => Err(Untranscribed::Feed(fault)),
-        Err(BehindError::Fault(BehindFault::Logs(fault))) => {
-            let line = fault_line(alloc, names, source, logs, after, fault)?;
-            Err(Untranscribed::Line(line))
-        }
+    match error {
+        StreamError::Memory => Untranscribed::Memory,
+        StreamError::Unwritten => Untranscribed::Unwritten,
+        StreamError::Unread(file) => Untranscribed::Unread(file),
+        StreamError::Feed(fault) => Untranscribed::Feed(fault),
+        StreamError::Fault(fault, byte) => fault_line(alloc, names, tables, fault, byte),
+    }
+}
+
+/// Writes the feed of logs, or what they have behind one.
+fn write_from<L: LogFiles, W: Out>(
+    alloc: Global,
+    source: FeedSource<'_, '_>,
+    after: Option<Vec<u8>>,
+    files: &L,
+    out: &mut W,
+) -> Result<(), StreamError>
+    ensures { StreamEnds (λ logs. made_from (source_value source.entry) (option_map (λ feed. feed.items) after) logs) (λ logs feed. IsSource (source_value source.entry) → IsMade (source_value source.entry) (option_map (λ feed. feed.items) after) logs feed) (L.gives files.now) (L.many files.now) result (W.written out.old) (W.written out.new) }
+{
+    match after {
+        Some(feed) => transcribe_behind_to(alloc, source, feed, files, out),
+        None => write_feed(alloc, source, files, out),
     }
 }
 
 /// The schema that the logs have the tables in.
-fn schema_of<'x>(inputs: &'x TranscribeInputs<'_, '_>, plan: &'x Plan) -> &'x [u8]
-    ensures { result.now ≡ option_map_or (λ name. name) (asked_of inputs.entry.now).schema plan.entry.now.keyspace }
+fn schema_of<'x>(schema: Option<&'x str>, plan: &'x Plan) -> &'x [u8]
+    ensures { result.now ≡ option_map_or (λ name. name) (option_map (λ name. name.now) schema.entry) plan.entry.now.keyspace }
 {
-    match inputs.schema {
+    match schema {
         Some(name) => name.as_bytes(),
         None => plan.keyspace().as_bytes(),
     }
 }
 
-/// The feed behind which to go on, if there is one.
-fn after_of<'x>(inputs: &'x TranscribeInputs<'_, '_>) -> Option<&'x [u8]>
-    ensures { option_map (λ feed. feed.now) result ≡ (asked_of inputs.entry.now).after }
-{
-    match &inputs.after {
-        Some(feed) => Some(feed.as_slice()),
-        None => None,
-    }
-}
-
-/// The feed of the logs under a plan.
-fn feed_under(
+/// Writes the feed of the logs under a plan.
+fn write_under<L: LogFiles, W: Out>(
     alloc: Global,
-    inputs: &TranscribeInputs<'_, '_>,
+    inputs: TranscribeInputs<'_, '_>,
     plan: &Plan,
-) -> Result<Vec<u8>, Untranscribed>
-    ensures answers { AnswersUnder (asked_of inputs.now) plan.now (result_map_both (λ feed. feed.items) (λ why. why) result) }
-    ensures right { IfOk result (λ feed. IsMade (source_in plan.now (asked_of inputs.now).schema) (asked_of inputs.now).after (asked_of inputs.now).logs feed.items) }
+    files: &L,
+    out: &mut W,
+) -> Result<(), Untranscribed>
+    ensures { EndsUnder inputs.entry plan.now (L.gives files.now) (L.many files.now) result (W.written out.old) (W.written out.new) }
 {
+    let TranscribeInputs {
+        shard: _,
+        schema,
+        after,
+        workflow: _,
+        names,
+    } = inputs;
     let tables = plan.tables();
     names_are_plain(alloc, tables)?;
     let tables = feed_tables_of(alloc, tables)?;
-    let logs = slices_of(alloc, &inputs.logs)?;
     let source = FeedSource {
         keyspace: plan.keyspace(),
         shard: plan.shard(),
-        schema: schema_of(inputs, plan),
+        schema: schema_of(schema, plan),
         tables: &tables,
     };
-    feed_from(alloc, inputs.names, source, after_of(inputs), &logs)
+    match write_from(alloc, source, after, files, out) {
+        Ok(()) => Ok(()),
+        Err(error) => Err(why_of(alloc, names, &tables, error)),
+    }
 }
 
-/// The feed of the logs, for the stream of the shard. The faults are found in this order: those of the workflow; 115 where it
-/// has no stream of the shard; 148 where a table's name isn't plain; those of the feed behind which to go on, of which 85 comes
-/// behind a fault where the first log begins; the first of the logs. Any other error is want of memory.
-pub fn transcribed(
+/// Writes the feed of the logs on `out`, for the stream of the shard; the files are those of the names, and are read one at a
+/// time. The faults are found in this order: those of the workflow; 115 where it has no stream of the shard; 148 where a table's
+/// name isn't plain; those of the feed behind which to go on, of which 85 comes behind a fault where the first log begins; the
+/// first of the logs, or that a file can't be read. What was written before is of no use then. Any other error is that a write
+/// failed, or want of memory.
+pub fn transcribe_to<L: LogFiles, W: Out>(
     alloc: Global,
-    inputs: &TranscribeInputs<'_, '_>,
-) -> Result<Vec<u8>, Untranscribed>
-    ensures answers { Answers (asked_of inputs.now) (result_map_both (λ feed. feed.items) (λ why. why) result) }
-    ensures right { IfOk result (λ feed. IsTranscribed (asked_of inputs.now) feed.items) }
+    inputs: TranscribeInputs<'_, '_>,
+    files: &L,
+    out: &mut W,
+) -> Result<(), Untranscribed>
+    ensures { WritesAll inputs.entry (L.gives files.now) (L.many files.now) result (W.written out.old) (W.written out.new) }
 {
     let plans = match Plan::read_all(alloc, &inputs.workflow) {
         Ok(plans) => plans,
         Err(fault) => return Err(Untranscribed::Workflow(fault)),
     };
     match plan_of(&plans, inputs.shard) {
-        Some(plan) => feed_under(alloc, inputs, plan),
+        Some(plan) => write_under(alloc, inputs, plan, files, out),
         None => Err(Untranscribed::NoStream),
+    }
+}
+
+/// The feed of the logs, as it would be written.
+fn transcribed<L: LogFiles>(
+    alloc: Global,
+    inputs: TranscribeInputs<'_, '_>,
+    files: &L,
+) -> Result<Vec<u8>, Untranscribed>
+    ensures { MakesAll inputs.entry (L.gives files.now) (L.many files.now) (result_map_both (λ feed. feed.items) (λ why. why) result) }
+{
+    let mut spool = Spool::new(alloc);
+    match transcribe_to(alloc, inputs, files, &mut spool) {
+        Ok(()) => Ok(spool.into_bytes()),
+        Err(Untranscribed::Unwritten) => Err(Untranscribed::Memory),
+        Err(why) => Err(why),
     }
 }
 
@@ -240,17 +244,19 @@ fn print_line<E: Out>(line: &[u8], err: &mut E) -> TranscribeEnd
     TranscribeEnd::Told
 }
 
-/// Prints the feed of the logs on `out`, for the stream of the shard; or a refusal's line on `err`, where it is of a table's
-/// name or of the logs, and nothing on `out`; or answers why nothing is printed yet.
-pub fn transcribe<W: Out, E: Out>(
+/// Prints the feed of the logs on `out`, for the stream of the shard, once it is whole; or a refusal's line on `err`, where it
+/// is of a table's name or of the logs, and nothing on `out`; or answers why nothing is printed yet. Takes memory for the feed
+/// beside what `transcribe_to` takes.
+pub fn transcribe<L: LogFiles, W: Out, E: Out>(
     alloc: Global,
-    inputs: &TranscribeInputs<'_, '_>,
+    inputs: TranscribeInputs<'_, '_>,
+    files: &L,
     out: &mut W,
     err: &mut E,
 ) -> TranscribeEnd
-    ensures ends { EndsSo (asked_of inputs.now) result (W.written out.old) (W.written out.new) (E.written err.old) (E.written err.new) }
+    ensures ends { EndsSo inputs.entry (L.gives files.now) (L.many files.now) result (W.written out.old) (W.written out.new) (E.written err.old) (E.written err.new) }
 {
-    match transcribed(alloc, inputs) {
+    match transcribed(alloc, inputs, files) {
         Ok(feed) => print_feed(&feed, out),
         Err(Untranscribed::Line(line)) => print_line(&line, err),
         Err(why) => TranscribeEnd::Refused(why),

@@ -17,7 +17,7 @@ use Rattle.log_feed.specs.declared.fault.ChangeError.TheVariants as change_error
 use Rattle.log_laws.specs.declared.fault.TellFault.{TellFault}
 use Rattle.log_laws.specs.declared.fault.TellFault.TheVariants.{Change}
 use Rattle.log_laws.specs.Source.{SourceTables}
-use Rattle.log_laws.specs.Transcript.{Far, Messages, place_told, written}
+use Rattle.log_laws.specs.Transcript.{Far, place_told, written}
 use Rattle.log_transcribe.specs.declared.fault.LogsFault.TheVariants.{Course, Tell}
 use Rattle.log_transcribe.specs.declared.fault.LogsError.{LogsError}
 use Rattle.log_transcribe.specs.declared.fault.LogsError.TheVariants.{Memory, Fault}
@@ -68,8 +68,8 @@ abbrev pub last_put : List ℕ → List ℕ → List Interval → Bool → List 
 last_put keyspace shard position true out = Ok out
 last_put keyspace shard position false out = event_bytes (place_told keyspace shard position) >>= λ place. Ok (out ++ framed (written_response (place ∷ [])))
 
--- messages behind other bytes, and how far they tell
-abbrev pub with_messages : {F : Type 0} → Result Messages F → List ℕ → Result (List ℕ × Far) F
+-- messages behind other bytes, and how far they go
+abbrev pub with_messages : {A F : Type 0} → Result (List (List EventValue) × A) F → List ℕ → Result (List ℕ × A) F
 with_messages (Ok x) out = Ok (out ++ written x.0, x.1)
 with_messages (Err fault) out = Err fault
 
@@ -96,7 +96,7 @@ PutsNext file s old (Ok false) new far next_far out next = with_messages (course
 PutsNext file s old (Err error) new far next_far out next = Refuses meant error (with_messages (course_told file s old far) out)
 
 -- and of what waits behind the file: it stays the same, and where there was none no group is to come
-abbrev pub KeepsWaiting : CourseValue → Result Bool LogsError → CourseValue → Type 0
+abbrev pub KeepsWaiting : {E : Type 0} → CourseValue → Result Bool E → CourseValue → Type 0
 KeepsWaiting old (Ok true) new = new.waiting ≡ old.waiting
 KeepsWaiting old (Ok false) new = (new.waiting ≡ old.waiting) × (new.groups.items ≡ []) × (new.groups.fault ≡ None)
 KeepsWaiting old (Err error) new = Unit {0}

@@ -1,16 +1,16 @@
 -- Further messages as they are put behind bytes that are written.
-use Rattle.std.specs.Prelude.{◌≡◌, ◌<◌, ℕ, Bool, true, false, List, ◌++◌, length, Result, Ok, Err}
+use Rattle.std.specs.Prelude.{◌≡◌, ◌<◌, ℕ, Bool, true, false, List, length, Result, Ok, Err}
 use Rattle.list_laws.specs.Outcome.{Refuses}
 use Rattle.item_readers.specs.Reading.{Reading}
 use Rattle.log_course.specs.declared.fault.CourseFault.{CourseFault}
 use Rattle.log_course.specs.Course.{PlacedValue}
 use Rattle.log_feed.specs.declared.table.Stage.{Stage}
 use Rattle.log_laws.specs.Source.{SourceTables}
-use Rattle.log_laws.specs.Transcript.{written}
 use Rattle.log_transcribe.specs.declared.fault.LogsError.{LogsError}
 use Rattle.log_transcribe.specs.declared.fault.LogsFault.{LogsFault}
 use Rattle.log_transcribe.specs.Fault.{meant}
 use Rattle.log_transcribe.specs.Behind.{Along, Going, groups_behind}
+use Rattle.log_transcribe.specs.Private.Bytes.{with_messages}
 
 -- a sequel of the program: whose it is, and how far it goes
 pub record SequelValue : Type 0 where
@@ -20,12 +20,15 @@ pub record SequelValue : Type 0 where
 
 -- messages behind other bytes, and how far they go
 abbrev pub with_going : {F : Type 0} → Result Going F → List ℕ → Result (List ℕ × Along) F
-with_going (Ok x) out = Ok (out ++ written x.0, x.1)
-with_going (Err fault) out = Err fault
+with_going r out = with_messages r out
 
--- what is still told of the transactions of a file
+-- what is told of the transactions of a file that are still to come
+abbrev pub reading_behind : ℕ → SourceTables → List Stage → Reading PlacedValue CourseFault → Along → Result Going LogsFault
+reading_behind file s had r a = groups_behind file s had r.items r.fault a
+
+-- and put behind other bytes
 abbrev pub rest_told : ℕ → SourceTables → List Stage → Reading PlacedValue CourseFault → Along → List ℕ → Result (List ℕ × Along) LogsFault
-rest_told file s had r a out = with_going (groups_behind file s had r.items r.fault a) out
+rest_told file s had r a out = with_going (reading_behind file s had r a) out
 
 -- what a call that puts the next transaction of the file at a place answers and leaves, and whether there was one
 abbrev pub GoesNext : ℕ → SourceTables → List Stage → Reading PlacedValue CourseFault → Result Bool LogsError → Reading PlacedValue CourseFault → Along → Along → List ℕ → List ℕ → Type 0

@@ -1,5 +1,7 @@
 //! The feed of a server's log.
 
+ghost use Rattle.std.specs.Prelude.{None};
+
 use crate::logs::samples::LOG;
 use log_course::CourseFault;
 use log_events::{EventFault, LogFault};
@@ -7,8 +9,10 @@ use log_feed::{FeedTable, Trouble};
 use log_laws::TellFault;
 use log_tables::{TableFault, Wanted};
 use log_transcribe::{
-    BehindError, BehindFault, FeedSource, LogsError, LogsFault, transcribe, transcribe_behind,
+    BehindError, BehindFault, FeedSource, LogBytes, LogFiles, LogsError, LogsFault, ReadFault,
+    Spool, StreamError, transcribe, transcribe_behind, transcribe_to,
 };
+use printing::{Out, OutFailed};
 use source_feed::{FeedFault, read_groups};
 use std::alloc::{AllocError, Global};
 
@@ -204,5 +208,116 @@ fn behind_the_feed_of_a_cut_log(rt: HostRuntime) -> Result<(), AllocError> {
             }
         }
     }
+    Ok(())
+}
+
+/// Two files, of which the second is gone.
+#[derive(Drop)]
+struct Vanished<'b> {
+    first: &'b [u8],
+}
+
+impl LogFiles for Vanished<'_> {
+    ghost gives = { λ _ _ _. Unit {0} };
+
+    ghost many = { λ _. 2 };
+
+    fn count(&self) -> usize {
+        2
+    }
+
+    fn read(&self, file: usize) -> Result<LogBytes<'_>, ReadFault> {
+        if file == 0 {
+            return Ok(LogBytes::Lent(self.first));
+        }
+        Err(ReadFault::Unread)
+    }
+}
+
+/// One file.
+#[derive(Drop)]
+struct One<'b> {
+    log: &'b [u8],
+}
+
+impl LogFiles for One<'_> {
+    ghost gives = { λ _ _ _. Unit {0} };
+
+    ghost many = { λ _. 1 };
+
+    fn count(&self) -> usize {
+        1
+    }
+
+    fn read(&self, _file: usize) -> Result<LogBytes<'_>, ReadFault> {
+        Ok(LogBytes::Lent(self.log))
+    }
+}
+
+/// A disk that is full.
+#[derive(Drop)]
+struct Full {
+    failures: u64,
+}
+
+impl Out for Full {
+    ghost written = { λ f. record { bytes = None; failures = f.failures } };
+
+    fn write(&mut self, _piece: &[u8]) -> Result<usize, OutFailed> {
+        self.failures = self.failures.wrapping_add(1);
+        Err(OutFailed)
+    }
+}
+
+/// How the feed of such files ends on a writer.
+fn ends_on<W: Out>(
+    alloc: Global,
+    first: &[u8],
+    out: &mut W,
+) -> Result<Result<(), StreamError>, AllocError> {
+    let tables = tables_of(alloc, "t", 6165)?;
+    let source = FeedSource {
+        keyspace: "ks",
+        shard: "-80",
+        schema: b"s",
+        tables: &tables,
+    };
+    let ended = transcribe_to(alloc, source, &Vanished { first }, out);
+    Ok(ended)
+}
+
+/// A file that is gone is told behind the faults of those before it, and a full disk once something is written.
+#[test]
+fn files_one_at_a_time(rt: HostRuntime) -> Result<(), AllocError> {
+    let mut kept = Spool::new(rt.alloc());
+    let gone = ends_on(rt.alloc(), &LOG, &mut kept)?;
+    assert!(rt; matches!(gone, Err(StreamError::Unread(1))));
+    let first = ends_on(rt.alloc(), b"no log", &mut kept)?;
+    assert!(rt;
+        matches!(first, Err(StreamError::Fault(fault, Some(0))) if fault.number() == 140 && fault.file() == 0)
+    );
+    let unread = ends_on(rt.alloc(), &LOG, &mut Full { failures: 0 })?;
+    assert!(rt; matches!(unread, Err(StreamError::Unread(1))));
+    Ok(())
+}
+
+/// A writer that fails.
+#[test]
+fn full_disk(rt: HostRuntime) -> Result<(), AllocError> {
+    let tables = tables_of(rt.alloc(), "t", 6165)?;
+    let source = FeedSource {
+        keyspace: "ks",
+        shard: "-80",
+        schema: b"s",
+        tables: &tables,
+    };
+    let mut full = Full { failures: 0 };
+    let ended = transcribe_to(rt.alloc(), source, &One { log: &LOG }, &mut full);
+    assert!(rt; matches!(ended, Err(StreamError::Unwritten)) && full.failures == 1);
+    let mut kept = Spool::new(rt.alloc());
+    let ended = transcribe_to(rt.alloc(), source, &One { log: &LOG }, &mut kept);
+    assert!(rt; ended.is_ok());
+    let feed = kept.into_bytes();
+    assert!(rt; feed.as_slice() == FEED.as_slice());
     Ok(())
 }

@@ -1,7 +1,8 @@
 //! The feed of logs over which XA transactions are prepared and ended, in the form of MariaDB's.
 
-use crate::logs::groups::{CREATE, Log, MAP, PREPARED, ROW, XA_COMMIT, XA_ROLLBACK, XID, log_with};
+use crate::logs::groups::{CREATE, MAP, ROW, XID, log_with};
 use crate::logs::transcribe::{behind_of, feed_of};
+use crate::logs::xa::{Log, PREPARED, XA_COMMIT, XA_ROLLBACK};
 use log_transcribe::LogsFault;
 use source_feed::read_groups;
 use std::alloc::{AllocError, Global};

@@ -1,17 +1,24 @@
 -- What the steps of `transcribe` answer.
-use Rattle.std.specs.Prelude.{◌≡◌, ℕ, Bool, List, ◌++◌, codes, Option, None, Some, IfSome, Result, Ok, Err}
+use Rattle.std.specs.Prelude.{◌≡◌, ℕ, ◌+◌, Bool, List, ◌++◌, length, codes, Option, None, Some, Result, Ok, Err}
 use Rattle.filter_rule.specs.PlanTable.{TableValue, name_of_table}
 use Rattle.filter_rule.specs.PlanValue.{PlanValue}
+use Rattle.log_feed.specs.Table as feed
 use Rattle.log_laws.specs.Source.{SourceTables}
-use Rattle.source_feed.specs.FaultNumber.{meant_of}
 use Rattle.log_transcribe.specs.declared.fault.LogsFault.{LogsFault}
-use Rattle.log_transcribe.specs.declared.fault.BehindError.{BehindError}
-use Rattle.log_transcribe.specs.declared.fault.BehindError.TheVariants as behind_error
+use Rattle.log_transcribe.specs.declared.fault.BehindFault.{BehindFault}
+use Rattle.log_transcribe.specs.declared.fault.StreamError.{StreamError}
+use Rattle.log_transcribe.specs.declared.fault.StreamError.TheVariants as stop
+use Rattle.log_transcribe.specs.Behind.{behind_of_logs}
+use Rattle.log_transcribe.specs.Fault.{of_logs}
+use Rattle.log_transcribe.specs.Files.{GaveFrom}
+use Rattle.log_transcribe.specs.Streamed.{IsUnreadAt}
+use Rattle.log_transcribe.specs.Transcript.{feed_of_logs}
 use Rattle.printing.specs.Printing.{Written, IsWritten, BreaksOff}
-use Rattle.vrepl_transcribe.specs.Source.{first_unplain}
-use Rattle.vrepl_transcribe.specs.Transcribed.{AskedValue, WhyNot, unread_feed, unread_logs, SaysWhy, of_behind, feed_from, feed_under, line_of, logs_line}
+use Rattle.vrepl_transcribe.specs.Source.{first_unplain, source_in}
+use Rattle.vrepl_transcribe.specs.Transcribed.{WhyNot, unread_feed, SaysWhy, IsMade, asked_of, names_of, feed_under, line_of, logs_line}
+use Rattle.vrepl_transcribe.specs.declared.inputs.TranscribeInputs.{TranscribeInputs}
 use Rattle.vrepl_transcribe.specs.declared.transcribing.Untranscribed.{Untranscribed}
-use Rattle.vrepl_transcribe.specs.declared.transcribing.Untranscribed.TheVariants.{Memory, Feed, Line}
+use Rattle.vrepl_transcribe.specs.declared.transcribing.Untranscribed.TheVariants.{Memory, Unwritten, Unread, Feed, Line}
 use Rattle.vrepl_transcribe.specs.declared.transcribing.TranscribeEnd.{TranscribeEnd}
 use Rattle.vrepl_transcribe.specs.declared.transcribing.TranscribeEnd.TheVariants as end
 use Rattle.std.specs.Arc.{arc_value}
@@ -30,31 +37,51 @@ AnswersNames tables (Err Memory) = Unit {0}
 AnswersNames tables (Err (Line line)) = (t : ℕ) × (first_unplain tables ≡ Some t) × (line.items ≡ line_of 148 (codes " table " ++ name_of_table tables t))
 AnswersNames tables (Err why) = ⊥
 
--- the line is of a fault, with some byte
-abbrev pub SaysFault : List (List ℕ) → SourceTables → LogsFault → List ℕ → Type 0
-SaysFault names s fault line = (byte : Option ℕ) × (line ≡ logs_line names s.tables fault byte)
+-- the feed of logs, or what they have behind one that is there, with what is wrong with either
+abbrev pub made_from : SourceTables → Option (List ℕ) → List (List ℕ) → Result (List ℕ) BehindFault
+made_from s None logs = of_logs (feed_of_logs s logs)
+made_from s (Some feed) logs = behind_of_logs s feed logs
 
--- the same, or what is wrong
-abbrev pub GivesMade : SourceTables → Option (List ℕ) → List (List ℕ) → Result (List ℕ) BehindError → Type 0
-GivesMade s after logs (Ok feed) = feed_from s after logs ≡ Ok feed
-GivesMade s after logs (Err behind_error.Memory) = Unit {0}
-GivesMade s after logs (Err (behind_error.Fault fault)) = feed_from s after logs ≡ of_behind s (Err fault)
+-- the line is of a fault, with some byte, unless memory was wanting
+abbrev pub IsLineOf : List (List ℕ) → List feed.TableValue → LogsFault → Untranscribed → Type 0
+IsLineOf names tables fault Memory = Unit {0}
+IsLineOf names tables fault (Line line) = (byte : Option ℕ) × (line.items ≡ logs_line names tables fault byte)
+IsLineOf names tables fault why = ⊥
 
--- the feed of logs, or what they have behind one; or the fault of that one, or the line of the logs' first fault
-abbrev pub AnswersLogs : List (List ℕ) → SourceTables → Option (List ℕ) → List (List ℕ) → Result (List ℕ) Untranscribed → Type 0
-AnswersLogs names s after logs (Ok feed) = feed_from s after logs ≡ Ok feed
-AnswersLogs names s after logs (Err Memory) = Unit {0}
-AnswersLogs names s after logs (Err (Feed fault)) = IfSome (meant_of fault) (λ f. feed_from s after logs ≡ Err (unread_feed f))
-AnswersLogs names s after logs (Err (Line line)) = (fault : LogsFault) × (feed_from s after logs ≡ Err (unread_logs s fault)) × SaysFault names s fault line.items
-AnswersLogs names s after logs (Err why) = ⊥
+-- the same of any error
+abbrev pub IsWhyOf : List (List ℕ) → List feed.TableValue → StreamError → Untranscribed → Type 0
+IsWhyOf names tables stop.Memory why = why ≡ Memory
+IsWhyOf names tables stop.Unwritten why = why ≡ Unwritten
+IsWhyOf names tables (stop.Unread file) why = why ≡ Unread file
+IsWhyOf names tables (stop.Feed fault) why = why ≡ Feed fault
+IsWhyOf names tables (stop.Fault fault byte) why = IsLineOf names tables fault why
 
--- the feed under a plan, or the line that says why not
-abbrev pub AnswersUnder : AskedValue → PlanValue → Result (List ℕ) Untranscribed → Type 0
-AnswersUnder a plan (Ok feed) = feed_under a plan ≡ Ok feed
-AnswersUnder a plan (Err Memory) = Unit {0}
-AnswersUnder a plan (Err (Feed fault)) = IfSome (meant_of fault) (λ f. feed_under a plan ≡ Err (unread_feed f))
-AnswersUnder a plan (Err (Line line)) = (why : WhyNot) × (feed_under a plan ≡ Err why) × SaysWhy a why line.items
-AnswersUnder a plan (Err why) = ⊥
+-- ---- under a plan
+
+-- all files gave bytes, and the feed of these was written
+pub record IsWrittenUnder (inputs : TranscribeInputs) (plan : PlanValue) (Gives : ℕ → List ℕ → Type 0) (many : ℕ) (old new : Written) : Type 0 where
+  pub logs : List (List ℕ)
+  pub gave : GaveFrom Gives 0 logs
+  pub all : length logs ≡ many
+  pub feed : List ℕ
+  pub made : feed_under (asked_of inputs logs) plan ≡ Ok feed
+  pub right : IsMade (source_in plan (asked_of inputs logs).schema) (asked_of inputs logs).after logs feed
+  pub written : IsWritten old new feed
+
+-- there is none for this reason
+pub record IsNotUnder (inputs : TranscribeInputs) (plan : PlanValue) (Gives : ℕ → List ℕ → Type 0) (many : ℕ) (why : WhyNot) : Type 0 where
+  pub logs : List (List ℕ)
+  pub gave : GaveFrom Gives 0 logs
+  pub is : (others : List (List ℕ)) → length logs + length others ≡ many → feed_under (asked_of inputs (logs ++ others)) plan ≡ Err why
+
+abbrev pub EndsUnder : TranscribeInputs → PlanValue → (ℕ → List ℕ → Type 0) → ℕ → Result (Unit {0}) Untranscribed → Written → Written → Type 0
+EndsUnder inputs plan Gives many (Ok x) old new = IsWrittenUnder inputs plan Gives many old new
+EndsUnder inputs plan Gives many (Err Memory) old new = Unit {0}
+EndsUnder inputs plan Gives many (Err Unwritten) old new = (text : List ℕ) × BreaksOff old new text
+EndsUnder inputs plan Gives many (Err (Unread file)) old new = IsUnreadAt Gives many file
+EndsUnder inputs plan Gives many (Err (Feed fault)) old new = IsNotUnder inputs plan Gives many (unread_feed fault)
+EndsUnder inputs plan Gives many (Err (Line line)) old new = (why : WhyNot) × IsNotUnder inputs plan Gives many why × SaysWhy (names_of inputs) why line.items
+EndsUnder inputs plan Gives many (Err why) old new = ⊥
 
 -- the bytes were printed whole, or a beginning of them
 abbrev pub PrintsAll : List ℕ → TranscribeEnd → Written → Written → Type 0
