@@ -1,5 +1,5 @@
 -- One group alone up to which a feed is compacted; a checkpoint more, and the first one that is at fault.
-use Rattle.std.proofs.Common.{◌≡◌, ◌⊎◌, ℕ, ◌+◌, ◌<◌, ◌≤◌, List, [], ◌∷◌, ◌++◌, length, take, drop, get_or, Option, None, Some, Result, Ok, Err, slice_get, sym, ap, subst, ◌∙◌, inl, inr}
+use Rattle.std.proofs.Common.{◌≡◌, ◌⊎◌, ℕ, ◌+◌, ◌<◌, ◌≤◌, List, [], ◌∷◌, ◌++◌, length, take, drop, get_or, Option, None, Some, Result, Ok, Err, slice_get, refl, sym, ap, subst, ◌∙◌, inl, inr}
 use Rattle.std.proofs.lemmas.List.{map-append, take_more, take-append-drop}
 use Rattle.std.proofs.lemmas.Option.{none-some, same_Some, slice_get_within}
 use Rattle.std.specs.Global.{Vec}
@@ -10,17 +10,20 @@ use Rattle.list_laws.proofs.Walks.{at_item}
 use Rattle.filter_rule.specs.PlanValue.{PlanValue}
 use Rattle.filter_rule.specs.WellFormed.{IsPlan}
 use Rattle.gtid_set.specs.Text.{position_of_text}
+use Rattle.gtid_set.specs.declared.fault.GtidFault.{GtidFault}
+use Rattle.gtid_set.specs.declared.fault.GtidFault.TheVariants as gtid
 use Rattle.source_feed.proofs.PositionLaws.{one_number}
 use Rattle.source_feed.specs.GroupValue.{Position}
 use Rattle.source_feed.specs.Planned.{FeedValue, IsFeed}
 use Rattle.source_feed.specs.Positions.{IsNumberAt}
+use Rattle.checkpoint_core.specs.Fault.{HasParts}
 use Rattle.checkpoint_laws.specs.Laws.{CheckpointsSayOneThing}
 use Rattle.checkpoint_laws.specs.Said.{IsCheckpoint}
 use Rattle.checkpoint_laws.specs.Saved.{SavedStream}
 use Rattle.compact_limit.proofs.LeastLaws.{least_more, stops_at_first, one_least, none_stops}
 use Rattle.compact_limit.specs.Least.{IsLeast, StopsAtFirst}
 use Rattle.compact_limit.specs.Limit.{bytes_in, SaysOf, StandsAt, IsNamed, IsLimit}
-use Rattle.compact_limit.specs.Refused.{meant_of, IsOfNoGroup, IsUnnamed, IsUnplaced, IsRefusedLimit}
+use Rattle.compact_limit.specs.Refused.{meant_of, refusal_of_position, IsOfNoGroup, IsUnnamed, IsUnplaced, IsReadFurther, IsRefusedLimit}
 use Rattle.compact_limit.specs.declared.fault.LimitFault.{LimitFault}
 use Rattle.compact_limit.specs.declared.fault.LimitFault.TheVariants.{BadPosition, PositionUnknown, CheckpointBad, Memory}
 
@@ -85,6 +88,28 @@ stops_here plans feed stream named number checkpoints i one fault lt is least un
     (λ f. stops_at_first (StandsAt plans feed stream) (IsUnplaced plans feed stream) named (bytes_in (take i checkpoints)) one.items (bytes_in (drop (i + 1) checkpoints)) (bytes_in checkpoints) number f
     (bytes_around checkpoints i one lt is) least)
     unplaced
+
+-- ---- want of memory
+
+-- a result ends in one error alone
+pub one_error : {A E : Type 0} (r : Result A E) (x y : E) → r ≡ Err x → r ≡ Err y → x ≡ y
+one_error r x y e f = cc
+
+-- a position's fault is want of memory where the reader's is
+pub of_memory : (cause : GtidFault) → refusal_of_position cause ≡ Memory → cause ≡ gtid.Memory
+of_memory gtid.Memory e = refl
+of_memory gtid.TooLarge e = cc
+of_memory gtid.Flavor e = cc
+of_memory gtid.BadUuid e = cc
+of_memory gtid.Syntax e = cc
+of_memory gtid.BadNumber e = cc
+
+-- it is wanted for the next checkpoint
+pub wants_here : (plans : List PlanValue) (feed : FeedValue) (stream named number count : ℕ) (checkpoints : List (Vec ℕ)) (i : ℕ) (one : Vec ℕ) → i < length checkpoints → one ≡ get_or checkpoints i one
+    → IsLeast (StandsAt plans feed stream) named (bytes_in (take i checkpoints)) number → length plans ≡ count → HasParts one.items count → StopsAtFirst (StandsAt plans feed stream) (IsReadFurther plans) (bytes_in checkpoints) Memory
+wants_here plans feed stream named number count checkpoints i one lt is least many parts =
+    stops_at_first (StandsAt plans feed stream) (IsReadFurther plans) named (bytes_in (take i checkpoints)) one.items (bytes_in (drop (i + 1) checkpoints)) (bytes_in checkpoints) number Memory
+    (bytes_around checkpoints i one lt is) least (subst (HasParts one.items) (sym many) parts)
 
 -- ---- one group alone
 

@@ -1,12 +1,13 @@
 -- Why it can't be said up to which group a feed is compacted (this profile).
-use Rattle.std.specs.Prelude.{◌≡◌, ◌⊎◌, ℕ, List, Option, None, Some, Ok, Err}
+use Rattle.std.specs.Prelude.{◌≡◌, ◌⊎◌, ℕ, List, length, Option, None, Some, Ok, Err}
 use Rattle.filter_rule.specs.PlanValue.{PlanValue}
-use Rattle.gtid_set.specs.Text.{position_of_text}
+use Rattle.gtid_set.specs.Text.{position_of_text, NamesSeveral}
 use Rattle.gtid_set.specs.declared.fault.GtidFault.{GtidFault}
 use Rattle.gtid_set.specs.declared.fault.GtidFault.TheVariants as gtid
 use Rattle.source_feed.specs.GroupValue.{Position}
 use Rattle.source_feed.specs.Planned.{FeedValue}
 use Rattle.source_feed.specs.Positions.{IsNumberAt}
+use Rattle.checkpoint_core.specs.Fault.{HasParts}
 use Rattle.checkpoint_laws.specs.Saved.{SavedStream}
 use Rattle.compact_limit.specs.Least.{StopsAtFirst}
 use Rattle.compact_limit.specs.Limit.{SaysOf, StandsAt, IsNamed}
@@ -44,3 +45,20 @@ IsUnplaced plans feed stream checkpoint fault = ⊥
 abbrev pub IsRefusedLimit : List PlanValue → FeedValue → ℕ → Option (List ℕ) → List (List ℕ) → LimitFault → Type 0
 IsRefusedLimit plans feed stream at checkpoints fault =
     IsUnnamed feed at fault ⊎ ((named : ℕ) × IsNamed feed at named × StopsAtFirst (StandsAt plans feed stream) (IsUnplaced plans feed stream) checkpoints fault)
+
+-- ---- want of memory
+
+-- the text of the position that is named has no fault and names several intervals
+abbrev pub HasSeveral : Option (List ℕ) → Type 0
+HasSeveral None = ⊥
+HasSeveral (Some text) = NamesSeveral text
+
+-- a checkpoint is read further than how many parts it has: as many as there are plans
+abbrev pub IsReadFurther : List PlanValue → List ℕ → LimitFault → Type 0
+IsReadFurther plans checkpoint fault = HasParts checkpoint (length plans)
+
+-- Where memory may be wanted: for the text of the position that is named; or else for the first checkpoint of which it isn't
+-- known where its stream stands.
+abbrev pub WantsMemory : List PlanValue → FeedValue → ℕ → Option (List ℕ) → List (List ℕ) → Type 0
+WantsMemory plans feed stream at checkpoints =
+    HasSeveral at ⊎ ((named : ℕ) × IsNamed feed at named × StopsAtFirst (StandsAt plans feed stream) (IsReadFurther plans) checkpoints Memory)

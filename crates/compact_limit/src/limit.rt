@@ -1,13 +1,14 @@
 //! Up to which group a feed is compacted.
 
-ghost use Rattle.std.specs.Prelude.{◌≡◌, ℕ, map, None, slice_get, IfOk, IfErr, IfSome};
+ghost use Rattle.std.specs.Prelude.{◌≡◌, ℕ, length, map, Err, None, slice_get, IfOk, IfErr, IfSome};
 ghost use Rattle.std.specs.Option.{option_copied, option_map};
 ghost use Rattle.std.specs.Arc.{arc_value};
+ghost use Rattle.checkpoint_core.specs.Fault.{HasParts};
 ghost use Rattle.source_feed.specs.Positions.{IsNumberAt};
 ghost use Rattle.compact_limit.specs.Least.{IsLeast, StopsAtFirst};
 ghost use Rattle.compact_limit.specs.Limit.{bytes_in, IsLimit, IsNamed, StandsAt};
-ghost use Rattle.compact_limit.specs.Refused.{meant_of, IsRefusedLimit, IsUnnamed, IsUnplaced};
-ghost use Rattle.compact_limit.specs.declared.fault.LimitFault.TheVariants.{PositionUnknown};
+ghost use Rattle.compact_limit.specs.Refused.{meant_of, HasSeveral, IsReadFurther, IsRefusedLimit, IsUnnamed, IsUnplaced, WantsMemory};
+ghost use Rattle.compact_limit.specs.declared.fault.LimitFault.TheVariants.{Memory, PositionUnknown};
 
 use crate::fault::LimitFault;
 use crate::least::lesser;
@@ -42,6 +43,7 @@ fn groups_of(feed: &Feed<'_>) -> u32
 fn number_named(alloc: Global, feed: &Feed<'_>, at: Option<&str>) -> Result<u32, LimitFault>
     ensures named { IfOk result (IsNamed feed.now (option_map (λ text. text.now) at.entry)) }
     ensures refused { IfErr result (λ fault. IfSome (meant_of fault) (IsUnnamed feed.now (option_map (λ text. text.now) at.entry))) }
+    ensures memory { result ≡ Err Memory → HasSeveral (option_map (λ text. text.now) at.entry) }
 {
     match at {
         None => Ok(groups_of(feed)),
@@ -69,6 +71,7 @@ fn number_in(
 ) -> Result<u32, LimitFault>
     ensures stands { IfOk result (StandsAt (map arc_value plans.now) feed.now stream checkpoint.now) }
     ensures refused { IfErr result (λ fault. IfSome (meant_of fault) (IsUnplaced (map arc_value plans.now) feed.now stream checkpoint.now)) }
+    ensures memory { result ≡ Err Memory → HasParts checkpoint.now (length plans.now) }
 {
     let saved = match read_checkpoint(alloc, plans, checkpoint) {
         Ok(saved) => saved,
@@ -92,6 +95,7 @@ fn least_of(
 ) -> Result<u32, LimitFault>
     ensures least { IfOk result (IsLeast (StandsAt (map arc_value plans.now) feed.now stream) named (bytes_in checkpoints.now)) }
     ensures refused { IfErr result (λ fault. IfSome (meant_of fault) (StopsAtFirst (StandsAt (map arc_value plans.now) feed.now stream) (IsUnplaced (map arc_value plans.now) feed.now stream) (bytes_in checkpoints.now))) }
+    ensures memory { result ≡ Err Memory → StopsAtFirst (StandsAt (map arc_value plans.now) feed.now stream) (IsReadFurther (map arc_value plans.now)) (bytes_in checkpoints.now) Memory }
 {
     let mut number = named;
     for checkpoint in checkpoints {
@@ -107,7 +111,8 @@ fn least_of(
 ///
 /// The faults are found in this order: of the position that is named `BadPosition`, and `PositionUnknown` where no group of
 /// the feed has it; of each checkpoint `CheckpointBad` where the bytes say nothing of the stream under these plans, and
-/// `PositionUnknown`. Any other error is want of memory.
+/// `PositionUnknown`. Any other error is want of memory, which is taken for a position's text that names several intervals
+/// and for a checkpoint that is as many parts as there are plans.
 pub fn limit_of(
     alloc: Global,
     plans: &[Arc<Plan>],
@@ -118,6 +123,8 @@ pub fn limit_of(
 ) -> Result<u32, LimitFault>
     ensures limit { IfOk result (IsLimit (map arc_value plans.now) feed.now stream (option_map (λ text. text.now) at.entry) (bytes_in checkpoints.now)) }
     ensures refused { IfErr result (λ fault. IfSome (meant_of fault) (IsRefusedLimit (map arc_value plans.now) feed.now stream (option_map (λ text. text.now) at.entry) (bytes_in checkpoints.now))) }
+    // Want of memory hides no checkpoint before the one that it is wanted for, and none that hasn't as many parts as there are plans.
+    ensures memory { result ≡ Err Memory → WantsMemory (map arc_value plans.now) feed.now stream (option_map (λ text. text.now) at.entry) (bytes_in checkpoints.now) }
 {
     let named = number_named(alloc, feed, at)?;
     least_of(alloc, plans, feed, stream, named, checkpoints)

@@ -26,11 +26,12 @@ use Rattle.compaction_laws.specs.CompactedBytes.{ReplacesFront, OpensCompacted}
 use Rattle.compaction_laws.specs.CompactedFeed.{groups_to}
 use Rattle.compaction_laws.specs.Laws.{BytesAreCompacted}
 use Rattle.compaction_laws.specs.Portions.{event_of, rows_of}
-use Rattle.compaction.specs.Compacting.{CutsFeed, HasGroup, KeepsAll, AreSound, IsCause, IsCompaction, IsLimit, others_message, refusal_of_feed}
+use Rattle.compaction.specs.Compacting.{CutsFeed, HasGroup, KeepsAll, AreSound, IsCause, IsCompaction, IsOver, others_message, refusal_of_feed}
+use Rattle.compaction.specs.Private.Limits.{IsOverBy, refusal_of_write}
 use Rattle.compaction.specs.Private.Written.{IsBase, AddsBase}
 use Rattle.compaction.specs.declared.cut.UnknownTables.{UnknownTables}
-use Rattle.compaction.specs.declared.fault.CompactFault.{CompactFault}
-use Rattle.compaction.specs.declared.fault.CompactFault.TheVariants.{NoCut, UnknownTable, Unsound, TooLong, Memory}
+use Rattle.compaction.specs.declared.fault.WriteFault.{WriteFault}
+use Rattle.compaction.specs.declared.fault.WriteFault.TheVariants.{TooLong, Memory}
 
 abbrev Read : Type 0
 Read = Result EventValue EventFault
@@ -139,10 +140,9 @@ unsound_stands feed bytes unknown number feed_fault.Memory has keeps stops = tt
 unsound_stands feed bytes unknown number fault has keeps stops = (has, keeps, stops)
 
 -- what is beyond the limits, or wants memory, comes last
-pub limit_stands : (feed : FeedValue) (bytes : List ℕ) (unknown : UnknownTables) (number : ℕ) (fault : CompactFault) → HasGroup feed number → KeepsAll feed bytes unknown number → AreSound feed number → IsLimit fault
-    → IsCause feed bytes unknown number fault
-limit_stands feed bytes unknown number NoCut has keeps sound is = absurd is
-limit_stands feed bytes unknown number UnknownTable has keeps sound is = absurd is
-limit_stands feed bytes unknown number (Unsound fault) has keeps sound is = absurd is
-limit_stands feed bytes unknown number TooLong has keeps sound is = (has, keeps, sound)
-limit_stands feed bytes unknown number Memory has keeps sound is = tt
+pub limit_stands : (feed : FeedValue) (bytes : List ℕ) (unknown : UnknownTables) (number : ℕ) (fields : List FieldBytesValue) (place : List ℕ) (others : List (List ℕ)) (rest : List ℕ) (left : ImageRows) (fault : WriteFault)
+    → CutsFeed feed bytes unknown number fields place others rest → AreSound feed number → IsLeft (sound_groups feed) number left → IsOverBy (IsOver feed.plan fields left place others rest) fault
+    → IsCause feed bytes unknown number (refusal_of_write fault)
+limit_stands feed bytes unknown number fields place others rest left TooLong cuts sound are_left over =
+    (cuts.has, cuts.keeps, sound, record { fields = fields; place = place; others = others; rest = rest; cut = cuts; left = left; are_left = are_left; over = over })
+limit_stands feed bytes unknown number fields place others rest left Memory cuts sound are_left over = tt

@@ -1,7 +1,7 @@
 -- Rows and the messages that insert them, by the sizes of their parts.
-use Rattle.std.proofs.Common.{◌≡◌, ◌⊎◌, ◌∙◌, ℕ, ◌+◌, ◌*◌, ◌^◌, ◌<◌, ◌≤◌, ◌==◌, ◌&&◌, arith, Bool, true, false, eqb, ltb, List, [], ◌∷◌, ◌++◌, map, length, refl, sym, ap, subst, inl, inr, append_assoc, drop, get_or}
+use Rattle.std.proofs.Common.{◌≡◌, ◌⊎◌, ◌∙◌, ℕ, ◌+◌, ◌*◌, ◌^◌, ◌<◌, ◌≤◌, ◌==◌, ◌&&◌, arith, Bool, true, false, ltb, List, [], ◌∷◌, ◌++◌, map, length, refl, sym, ap, subst, inl, inr, append_assoc, drop, get_or}
 use Rattle.std.specs.List.{flat_map}
-use Rattle.std.proofs.lemmas.Bool.{cond-true, cond-false, cases_lt, lt-ltb, le-ltb, ne_eqb}
+use Rattle.std.proofs.lemmas.Bool.{cond-true, cond-false, cases_lt, lt-ltb, le-ltb, ne_eqb, false≢true}
 use Rattle.std.proofs.lemmas.List.{append-nil, drop_more, length-append}
 use Rattle.std.proofs.lemmas.List.Concat.{flat_map-append}
 use Rattle.proto_wire.specs.Varint.{shortest_within, shortest}
@@ -131,6 +131,58 @@ fits row w = record { few = w.few; short = by w.short }
     by : (packed_size (length (written_lengths row)) (length (written_values row)) ≤ 2 ^ 24) ⊎ ((length row ≡ 1) × (plain_size (length (written_lengths row)) (length (written_values row)) ≤ 2 ^ 24)) → length (written_row row) ≤ 2 ^ 24
     by (inl short) = let whole = if_packed row (is_packed row short) in omega (arith, whole, short)
     by (inr (one, le)) = one_column one le (is_plain row) refl
+
+text_least : (n : ℕ) → n ≤ text_size n
+text_least n =
+    elim (cases_lt 0 n) [
+      | inl some ↦ let whole : text_size n ≡ held_size n = cond-false (n == 0) 0 (held_size n) (ne_eqb n 0 (λ e. omega (arith, e, some))) in omega (arith, whole)
+      | inr none ↦ omega (arith, none)
+    ]
+
+both_true : (a b : Bool) → (a && b) ≡ true → a ≡ true
+both_true true b e = refl
+both_true false b e = absurd (false≢true e)
+
+one_column : (n : ℕ) → (n == 1) ≡ true → n ≡ 1
+one_column n e =
+    elim (cases_lt n 1) [
+      | inl less ↦ absurd (false≢true (sym (ne_eqb n 1 (λ is. omega (arith, is, less))) ∙ e))
+      | inr more ↦ elim (cases_lt 1 n) [
+        | inl behind ↦ absurd (false≢true (sym (ne_eqb n 1 (λ is. omega (arith, is, behind))) ∙ e))
+        | inr up_to ↦ omega (arith, more, up_to)
+      ]
+    ]
+
+-- and one within the limits has such sizes
+pub fitting : (row : RowValue) → IsWithinLimits row → IsWithin (length row) (length (written_lengths row)) (length (written_values row))
+fitting row w = by (is_plain row) refl
+  where
+    by : (plain : Bool) → is_plain row ≡ plain → IsWithin (length row) (length (written_lengths row)) (length (written_values row))
+    by true is =
+        let whole = if_plain row is in
+        let values = text_least (length (written_values row)) in
+        record {
+          few = w.few;
+          lengths_short = omega (arith, whole, w.short);
+          values_short = omega (arith, whole, w.short, values);
+          short = inr (one_column (length row) (both_true (length row == 1) (ltb (2 ^ 24) (length (written_fields (packed_fields row)))) is), omega (arith, whole, w.short));
+        }
+    by false is =
+        let whole = if_packed row is in
+        let lengths = text_least (length (written_lengths row)) in
+        let values = text_least (length (written_values row)) in
+        record {
+          few = w.few;
+          lengths_short = omega (arith, whole, w.short, lengths);
+          values_short = omega (arith, whole, w.short, values);
+          short = inl (omega (arith, whole, w.short));
+        }
+
+-- and one whose sizes aren't is not
+pub unfitting : (row : RowValue) (columns lengths values : ℕ) → columns ≡ length row → lengths ≡ length (written_lengths row) → values ≡ length (written_values row) → ¬ IsWithin columns lengths values → ¬ IsWithinLimits row
+unfitting row columns lengths values c l v not w =
+    not (subst (λ (n : ℕ). IsWithin n lengths values) (sym c)
+    (subst (λ (n : ℕ). IsWithin (length row) n values) (sym l) (subst (IsWithin (length row) (length (written_lengths row))) (sym v) (fitting row w))))
 
 pub has_sizes : (row : RowValue) (columns lengths values : ℕ) → columns ≡ length row → lengths ≡ length (written_lengths row) → values ≡ length (written_values row) → IsWithin columns lengths values → HasSizes row lengths values
 has_sizes row columns lengths values c l v w =

@@ -1,5 +1,5 @@
 -- What is written of a base, message by message.
-use Rattle.std.proofs.Common.{◌≡◌, ◌⊎◌, ℕ, ◌+◌, ◌^◌, ◌<◌, List, [], ◌∷◌, ◌++◌, length, map, Result, Ok, None, Some, true, refl, sym, ap, subst, ◌∙◌, inl, inr, arith, append_assoc}
+use Rattle.std.proofs.Common.{◌≡◌, ◌⊎◌, ℕ, ◌+◌, ◌^◌, ◌<◌, ◌≤◌, List, [], ◌∷◌, ◌++◌, length, map, Result, Ok, None, Some, true, refl, sym, ap, subst, ◌∙◌, inl, inr, arith, append_assoc}
 use Rattle.std.proofs.lemmas.List.{append-nil, length-append, length-map, map-append}
 use Rattle.std.proofs.lemmas.List.Concat.{flat_map-append}
 use Rattle.std.specs.List.{AllByRecursion, flat_map}
@@ -19,10 +19,13 @@ use Rattle.event_laws.specs.WrittenMessages.{written_response, framed, written_m
 use Rattle.feed_bytes.specs.FieldBytes.{FieldBytesValue}
 use Rattle.feed_bytes.specs.Inserts.{insert_change, inserts}
 use Rattle.compaction_laws.specs.Portions.{Portion, event_of, rows_of, IsOfOneTable}
-use Rattle.compaction.specs.Compacting.{others_message}
+use Rattle.compaction.specs.Compacting.{HasLongRow, IsLongFeed, others_message, portion_message, written_base}
 use Rattle.compaction.specs.Private.Sized.{inserts_message, joined}
 use Rattle.compaction.specs.Private.LeftEntries.{Entries, rows_of as entry_rows}
+use Rattle.compaction.specs.Private.Limits.{IsOverBy}
 use Rattle.compaction.specs.Private.Written.{AddsEvents, HasName, AreNamed, WaitingValue, CanBePut, IsPortionPut, IsPut, IsReady, AddsRows, AddsFields, AddsEnd, AddsBase, IsWrittenOver}
+use Rattle.compaction.specs.declared.fault.WriteFault.{WriteFault}
+use Rattle.compaction.specs.declared.fault.WriteFault.TheVariants as write
 use Rattle.std.specs.Str.{is_utf8}
 
 -- ---- messages
@@ -92,6 +95,7 @@ pub record Going (plan : PlanValue) (start out : List ℕ) (waiting : WaitingVal
   pub portions : List Portion
   pub each_portion : AllByRecursion (IsOfOneTable plan) portions
   pub adds : AddsEvents start out (map event_of portions)
+  pub bytes : out ≡ start ++ written_messages (map portion_message portions)
   pub last : ImageRows
   pub are : rows_of portions ++ last ≡ done
   pub rows : map (λ (row : Entry). row.1) last ≡ waiting.rows
@@ -113,6 +117,17 @@ same_rows : (plan : PlanValue) (waiting : WaitingValue) (last : ImageRows) (old 
 same_rows plan waiting last old new put e =
     subst (λ (event : EventValue). AddsEvents old new (event ∷ [])) (ap (inserts put.name) (sym e) ∙ same_event put.name last) put.adds
 
+-- the message of one portion more
+portion_more : (start out new : List ℕ) (portions : List Portion) (portion : Portion) → out ≡ start ++ written_messages (map portion_message portions) → new ≡ out ++ framed (written_response (portion_message portion))
+    → new ≡ start ++ written_messages (map portion_message (portions ++ portion ∷ []))
+portion_more start out new portions portion is more =
+    let one : List ℕ = framed (written_response (portion_message portion)) in
+    let before : List ℕ = written_messages (map portion_message portions) in
+    more ∙ ap (λ (w : List ℕ). w ++ one) is ∙ append_assoc start before one
+    ∙ ap (λ (w : List ℕ). start ++ (before ++ w)) (sym (append-nil one))
+    ∙ ap (λ (w : List ℕ). start ++ w) (sym (flat_map-append (λ (events : List (List ℕ)). framed (written_response events)) (map portion_message portions) (portion_message portion ∷ [])))
+    ∙ ap (λ (ms : List (List (List ℕ))). start ++ written_messages ms) (sym (map-append portion_message portions (portion ∷ [])))
+
 -- what waited is written
 pub going_put : (plan : PlanValue) (start out new : List ℕ) (waiting next : WaitingValue) (done : ImageRows) → Going plan start out waiting done → IsPut plan waiting out new → next.rows ≡ [] → Going plan start new next done
 going_put plan start out new waiting next done g (inl none) empty =
@@ -121,6 +136,7 @@ going_put plan start out new waiting next done g (inl none) empty =
       portions = g.portions;
       each_portion = g.each_portion;
       adds = subst (λ (w : List ℕ). AddsEvents start w (map event_of g.portions)) (sym none.1) g.adds;
+      bytes = none.1 ∙ g.bytes;
       last = [];
       are = ap (λ (rows : ImageRows). rows_of g.portions ++ rows) (sym nothing) ∙ g.are;
       rows = sym empty;
@@ -135,6 +151,8 @@ going_put plan start out new waiting next done g (inr put) empty =
       each_portion = All-append (IsOfOneTable plan) g.portions (portion ∷ []) g.each_portion (is, tt);
       adds = subst (λ (events : List EventValue). AddsEvents start new events) (sym (map-append event_of g.portions (portion ∷ [])))
           (adds_more start out new (map event_of g.portions) (event_of portion ∷ []) g.adds (same_rows plan waiting g.last out new put g.rows));
+      bytes = portion_more start out new g.portions portion g.bytes
+          (put.bytes ∙ ap (λ (event : EventValue). out ++ framed (written_response (written_event event ∷ []))) (ap (inserts put.name) (sym g.rows) ∙ same_event put.name g.last));
       last = [];
       are = append-nil (rows_of (g.portions ++ portion ∷ [])) ∙ flat_map-append (λ (p : Portion). p.rows) g.portions (portion ∷ [])
           ∙ ap (λ (rows : ImageRows). rows_of g.portions ++ rows) (append-nil g.last) ∙ g.are;
@@ -149,6 +167,7 @@ going_more plan start out waiting done key row g same = record {
   portions = g.portions;
   each_portion = g.each_portion;
   adds = g.adds;
+  bytes = g.bytes;
   last = g.last ++ (key, row) ∷ [];
   are = sym (append_assoc (rows_of g.portions) g.last ((key, row) ∷ [])) ∙ ap (λ (rows : ImageRows). rows ++ (key, row) ∷ []) g.are;
   rows = map-append (λ (r : Entry). r.1) g.last ((key, row) ∷ []) ∙ ap (λ (rows : List RowValue). rows ++ row ∷ []) g.rows;
@@ -183,6 +202,7 @@ going_ends plan start out new waiting done g put =
       each_portion = end.each_portion;
       are = sym (append-nil (rows_of end.portions)) ∙ ap (λ (rows : ImageRows). rows_of end.portions ++ rows) (sym none) ∙ end.are;
       adds = end.adds;
+      bytes = end.bytes;
     }
 
 -- ---- one row after another
@@ -214,6 +234,17 @@ pub writes_end : (plan : PlanValue) (fields : List FieldBytesValue) (start out n
 writes_end plan fields start out new waiting all left w none put =
     let all_done : w.done ≡ all = sym (append-nil w.done) ∙ ap (λ (es : Entries). w.done ++ entry_rows es) (sym none) ∙ w.parts in
     subst (AddsRows plan start new) all_done (going_ends plan start out new waiting w.done w.going put)
+
+-- a row that is beyond the limits is one of all
+pub long_row : (plan : PlanValue) (fields : List FieldBytesValue) (start out : List ℕ) (waiting : WaitingValue) (all : ImageRows) (left more : Entries) (entry : KeyValue × (ℕ × RowValue)) → WritesOn plan fields start out waiting all left
+    → left ≡ entry ∷ more → ¬ IsWithinLimits entry.1.1 → HasLongRow all
+long_row plan fields start out waiting all left more entry w is long within =
+    let parts : w.done ++ ((entry.0, entry.1.1) ∷ entry_rows more) ≡ all = ap (λ (es : Entries). w.done ++ entry_rows es) (sym is) ∙ w.parts in
+    long (behind w.done (subst (λ (rows : ImageRows). AllByRecursion (λ (row : Entry). IsWithinLimits row.1) rows) (sym parts) within))
+  where
+    behind : (done : ImageRows) → AllByRecursion (λ (row : Entry). IsWithinLimits row.1) (done ++ ((entry.0, entry.1.1) ∷ entry_rows more)) → IsWithinLimits entry.1.1
+    behind [] h = h.0
+    behind (row ∷ done) h = behind done h.1
 
 -- ---- the whole
 
@@ -263,6 +294,7 @@ is_written_over plan fields rows place others rest head end tail portions new fi
       each_portion = middle.each_portion;
       are = middle.are;
       adds = adds_behind head messages (map event_of middle.portions) middle.adds;
+      bytes = ap (λ (w : List ℕ). head ++ w) middle.bytes;
     } in
     let third : AddsEnd (head ++ messages) base place = λ event e. adds_behind (head ++ messages) end (event ∷ Commit ∷ []) (last event e) in
     record {
@@ -272,3 +304,35 @@ is_written_over plan fields rows place others rest head end tail portions new fi
           ∙ sym (append_assoc (head ++ messages) end behind ∙ append_assoc head messages (end ++ behind));
       short = short;
     }
+
+-- and are too long
+pub is_long_feed : (plan : PlanValue) (fields : List FieldBytesValue) (rows : ImageRows) (place : List ℕ) (others : List (List ℕ)) (rest head end tail : List ℕ) (portions : List (List ℕ))
+    → head ≡ framed (written_response (map (λ (field : FieldBytesValue). field.bytes) fields ++ written_event Begin ∷ [])) → AddsRows plan [] (joined portions) rows
+    → end ≡ framed (written_response (place ∷ written_event Commit ∷ [])) → tail ≡ end ++ others_message others → 2 ^ 31 ≤ length (head ++ (joined portions ++ (tail ++ rest))) → IsLongFeed plan fields rows place others rest
+is_long_feed plan fields rows place others rest head end tail portions first middle last tail_is long =
+    let messages : List ℕ = joined portions in
+    let behind : List ℕ = others_message others ++ rest in
+    let one : List ℕ = framed (written_response (place ∷ written_event Commit ∷ [])) in
+    let base_is : written_base fields middle.portions place ≡ head ++ (messages ++ end) =
+    ap (λ (w : List ℕ). framed (written_response (map (λ (field : FieldBytesValue). field.bytes) fields ++ written_event Begin ∷ [])) ++ w)
+    (
+    flat_map-append (λ (events : List (List ℕ)). framed (written_response events)) (map portion_message middle.portions) ((place ∷ written_event Commit ∷ []) ∷ [])
+    ∙ ap (λ (w : List ℕ). written_messages (map portion_message middle.portions) ++ w) (append-nil one)
+    ∙ ap (λ (w : List ℕ). w ++ one) (sym middle.bytes)
+    ∙ ap (λ (w : List ℕ). messages ++ w) (sym last)
+    )
+    ∙ ap (λ (w : List ℕ). w ++ (messages ++ end)) (sym first) in
+    let all : head ++ (messages ++ (tail ++ rest)) ≡ written_base fields middle.portions place ++ behind =
+    ap (λ (w : List ℕ). head ++ (messages ++ (w ++ rest))) tail_is
+    ∙ ap (λ (w : List ℕ). head ++ (messages ++ w)) (append_assoc end (others_message others) rest)
+    ∙ ap (λ (w : List ℕ). head ++ w) (sym (append_assoc messages end behind))
+    ∙ sym (append_assoc head (messages ++ end) behind)
+    ∙ ap (λ (w : List ℕ). w ++ behind) (sym base_is) in
+    record { portions = middle.portions; each_portion = middle.each_portion; are = middle.are; long = subst (λ (w : List ℕ). 2 ^ 31 ≤ length w) all long }
+
+-- ---- what is over
+
+-- what is beyond the limits for one reason is so for another that follows
+pub over_by : (One Other : Type 0) (fault : WriteFault) → (One → Other) → IsOverBy One fault → IsOverBy Other fault
+over_by One Other write.TooLong carries over = carries over
+over_by One Other write.Memory carries over = tt

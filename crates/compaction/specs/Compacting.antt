@@ -1,6 +1,9 @@
 -- A feed whose first groups are compacted, and why one isn't (this profile).
-use Rattle.std.specs.Prelude.{◌≡◌, ◌⊎◌, ℕ, ◌-◌, ◌<◌, ◌≤◌, List, [], ◌∷◌, ◌++◌, length, take, Bool, true, false, is_none, IfSome, Ok}
-use Rattle.std.specs.List.{list_any}
+use Rattle.std.specs.Prelude.{◌≡◌, ◌⊎◌, ℕ, ◌-◌, ◌<◌, ◌≤◌, ◌^◌, List, [], ◌∷◌, ◌++◌, length, map, take, Bool, true, false, is_none, IfSome, Ok}
+use Rattle.std.specs.List.{AllByRecursion, list_any}
+use Rattle.row_view.specs.WrittenRow.{IsWithinLimits}
+use Rattle.vevent.specs.EventValue.{Begin, Commit}
+use Rattle.vevent.specs.WrittenEvent.{written_event}
 use Rattle.filter_rule.specs.PlanValue.{PlanValue, table_of_name}
 use Rattle.source_feed.specs.FaultNumber.{meant_of}
 use Rattle.source_feed.specs.GroupValue.{TableChangeValue, GroupValue}
@@ -10,11 +13,12 @@ use Rattle.source_feed.specs.Planned.{source_of, FeedValue}
 use Rattle.source_feed.specs.SoundGroups.{sound_groups, StopsBefore}
 use Rattle.source_feed.specs.declared.fault.FeedFault.{FeedFault}
 use Rattle.source_feed.specs.declared.fault.FeedFault.TheVariants as feed
-use Rattle.event_laws.specs.WrittenMessages.{written_response, framed}
+use Rattle.event_laws.specs.WrittenMessages.{written_response, framed, written_messages}
 use Rattle.feed_bytes.specs.Cut.{IsCutBehind}
 use Rattle.feed_bytes.specs.FieldBytes.{FieldBytesValue}
 use Rattle.compaction_laws.specs.Base.{IsLeft}
 use Rattle.compaction_laws.specs.CompactedBytes.{OpensCompacted}
+use Rattle.compaction_laws.specs.Portions.{Portion, event_of, rows_of, IsOfOneTable}
 use Rattle.compaction.specs.declared.cut.UnknownTables.{UnknownTables}
 use Rattle.compaction.specs.declared.cut.UnknownTables.TheVariants.{Refused, LeftOut}
 use Rattle.compaction.specs.declared.fault.CompactFault.{CompactFault}
@@ -87,6 +91,43 @@ pub record IsCompaction (feed : FeedValue) (bytes : List ℕ) (unknown : Unknown
   pub are_left : IsLeft (sound_groups feed) number left
   pub count : length left ≡ rows
 
+-- ---- what is too long
+
+-- the message of a portion: the ROW that inserts its rows
+abbrev pub portion_message : Portion → List (List ℕ)
+portion_message portion = written_event (event_of portion) ∷ []
+
+-- a base as it is written: a message of the FIELDs and a BEGIN, one of each portion, and one of the position and a COMMIT
+abbrev pub written_base : List FieldBytesValue → List Portion → List ℕ → List ℕ
+written_base fields portions place =
+    written_messages ((map (λ field. field.bytes) fields ++ written_event Begin ∷ []) ∷ (map portion_message portions ++ (place ∷ written_event Commit ∷ []) ∷ []))
+
+-- a base of these rows, with what stands behind it, has more bytes than a feed may
+pub record IsLongFeed (plan : PlanValue) (fields : List FieldBytesValue) (rows : ImageRows) (place : List ℕ) (others : List (List ℕ)) (rest : List ℕ) : Type 0 where
+  pub portions : List Portion
+  pub each_portion : AllByRecursion (IsOfOneTable plan) portions
+  pub are : rows_of portions ≡ rows
+  pub long : 2 ^ 31 ≤ length (written_base fields portions place ++ (others_message others ++ rest))
+
+-- one of the rows has more columns or bytes than a row may, as none does that was read
+abbrev pub HasLongRow : ImageRows → Type 0
+HasLongRow rows = ¬ AllByRecursion (λ row. IsWithinLimits row.1) rows
+
+-- a base of these rows is beyond the limits, by a row or as a whole
+abbrev pub IsOver : PlanValue → List FieldBytesValue → ImageRows → List ℕ → List (List ℕ) → List ℕ → Type 0
+IsOver plan fields rows place others rest = HasLongRow rows ⊎ IsLongFeed plan fields rows place others rest
+
+-- a base of the rows that the groups leave is beyond them
+pub record IsTooLong (feed : FeedValue) (bytes : List ℕ) (unknown : UnknownTables) (number : ℕ) : Type 0 where
+  pub fields : List FieldBytesValue
+  pub place : List ℕ
+  pub others : List (List ℕ)
+  pub rest : List ℕ
+  pub cut : CutsFeed feed bytes unknown number fields place others rest
+  pub left : ImageRows
+  pub are_left : IsLeft (sound_groups feed) number left
+  pub over : IsOver feed.plan fields left place others rest
+
 -- ---- refusals
 
 -- a fault of a feed's groups as one of compacting it
@@ -94,17 +135,11 @@ abbrev pub refusal_of_feed : FeedFault → CompactFault
 refusal_of_feed feed.Memory = Memory
 refusal_of_feed fault = Unsound fault
 
--- a base would be beyond the limits, or memory ran out
-abbrev pub IsLimit : CompactFault → Type 0
-IsLimit TooLong = Unit {0}
-IsLimit Memory = Unit {0}
-IsLimit fault = ⊥
-
--- What stands in a feed that isn't compacted up to a group: the first of these that isn't as it must be. Nothing is said of a
--- want of memory, nor of how long the new feed would be.
+-- What stands in a feed that isn't compacted up to a group: the first of these that isn't as it must be, and last that the new
+-- feed would be too long. Nothing is said of a want of memory.
 abbrev pub IsCause : FeedValue → List ℕ → UnknownTables → ℕ → CompactFault → Type 0
 IsCause feed bytes unknown number NoCut = (number ≡ 0) ⊎ (length feed.groups < number)
 IsCause feed bytes unknown number UnknownTable = HasGroup feed number × LosesSome feed bytes unknown number
 IsCause feed bytes unknown number (Unsound fault) = HasGroup feed number × KeepsAll feed bytes unknown number × IfSome (meant_of fault) (StopsBefore feed number)
-IsCause feed bytes unknown number TooLong = HasGroup feed number × KeepsAll feed bytes unknown number × AreSound feed number
+IsCause feed bytes unknown number TooLong = HasGroup feed number × KeepsAll feed bytes unknown number × AreSound feed number × IsTooLong feed bytes unknown number
 IsCause feed bytes unknown number Memory = Unit {0}

@@ -1,10 +1,13 @@
 //! The messages of a base.
 
-ghost use Rattle.std.specs.Prelude.{◌≡◌, ◌++◌, ◌∷◌, ◌<◌, ◌^◌, [], IfOk, OnOk, Ok, length, map};
+ghost use Rattle.std.specs.Prelude.{◌≡◌, ◌++◌, ◌∷◌, ◌<◌, ◌^◌, [], IfOk, IfErr, OnOk, Ok, length, map};
 ghost use Rattle.vevent.specs.Event.{event_at};
+ghost use Rattle.vevent.specs.EventValue.{Begin, Commit};
 ghost use Rattle.vevent.specs.EventView.{event_value};
-ghost use Rattle.vevent.specs.WrittenEvent.{IsSoundEvent};
-ghost use Rattle.compaction.specs.Compacting.{others_message};
+ghost use Rattle.vevent.specs.WrittenEvent.{IsSoundEvent, written_event};
+ghost use Rattle.event_laws.specs.WrittenMessages.{framed, written_response};
+ghost use Rattle.compaction.specs.Compacting.{HasLongRow, others_message};
+ghost use Rattle.compaction.specs.Private.Limits.{IsOverBy};
 ghost use Rattle.compaction.specs.Private.Sized.{joined};
 ghost use Rattle.compaction.specs.Private.Written.{AddsEnd, AddsFields, AddsRows, AreNamed};
 
@@ -28,7 +31,8 @@ fn is_short(out: &Vec<u8>)
 /// An event as bytes that are read as this event. An error is want of memory.
 fn bytes_of(alloc: Global, event: &Event<'_>) -> Result<Vec<u8>, AllocError>
     requires { IsSoundEvent (event_value event.now) }
-    ensures { IfOk result (λ bytes. event_at bytes.items ≡ Ok (event_value event.now)) }
+    ensures read { IfOk result (λ bytes. event_at bytes.items ≡ Ok (event_value event.now)) }
+    ensures written { IfOk result (λ bytes. bytes.items ≡ written_event (event_value event.now)) }
 {
     let mut bytes = Vec::new(alloc);
     write_event(&mut bytes, event)?;
@@ -58,7 +62,8 @@ pub(crate) fn write_fields(
     out: &mut Vec<u8>,
     fields: &[FieldBytes<'_>],
 ) -> Result<(), AllocError>
-    ensures { OnOk result (AddsFields out.old.items out.new.items fields.now) }
+    ensures adds { OnOk result (AddsFields out.old.items out.new.items fields.now) }
+    ensures bytes { OnOk result (out.new.items ≡ out.old.items ++ framed (written_response (map (λ field. field.bytes) fields.now ++ written_event Begin ∷ []))) }
 {
     let begin = bytes_of(alloc, &Event::Begin)?;
     let events = with_fields(alloc, fields, &begin)?;
@@ -75,7 +80,8 @@ pub(crate) fn push_rows<'h>(
     rows: &LeftRows<'h>,
 ) -> Result<(), WriteFault>
     requires { AreNamed plan.now fields.now rows.now }
-    ensures { OnOk result (AddsRows plan.now (joined portions.old.items) (joined portions.new.items) rows.now) }
+    ensures adds { OnOk result (AddsRows plan.now (joined portions.old.items) (joined portions.new.items) rows.now) }
+    ensures long { IfErr result (IsOverBy (HasLongRow rows.now)) }
 {
     let mut waiting = Waiting::new(alloc);
     for (key, _, row) in rows.scan() {
@@ -89,7 +95,8 @@ pub(crate) fn push_rows<'h>(
 
 /// Appends the message of an event that carries a position, and a COMMIT.
 pub(crate) fn write_end(alloc: Global, out: &mut Vec<u8>, place: &[u8]) -> Result<(), AllocError>
-    ensures { OnOk result (AddsEnd out.old.items out.new.items place.now) }
+    ensures adds { OnOk result (AddsEnd out.old.items out.new.items place.now) }
+    ensures bytes { OnOk result (out.new.items ≡ out.old.items ++ framed (written_response (place.now ∷ written_event Commit ∷ []))) }
 {
     let commit = bytes_of(alloc, &Event::Commit)?;
     write_message(out, &[place, &commit])?;

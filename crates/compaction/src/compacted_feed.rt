@@ -1,7 +1,8 @@
 //! A compacted feed before it is written.
 
-ghost use Rattle.std.specs.Prelude.{◌≡◌, ◌<◌, ◌++◌, ◌^◌, IfOk, length};
+ghost use Rattle.std.specs.Prelude.{◌≡◌, ◌<◌, ◌≤◌, ◌++◌, ◌^◌, IfOk, IfErr, length};
 ghost use Rattle.printing.specs.Printing.{Prints};
+ghost use Rattle.compaction.specs.Private.Limits.{IsOverBy};
 ghost use Rattle.compaction.specs.Private.Sized.{joined};
 
 use crate::fault::WriteFault;
@@ -49,6 +50,7 @@ impl<'h> CompactedFeed<'h> {
     ) -> Result<CompactedFeed<'h>, WriteFault>
         ensures pieces { IfOk result (λ feed. feed ≡ head.items ++ (joined portions.entry.items ++ (tail.items ++ rest.entry.now))) }
         ensures short { IfOk result (λ feed. length feed < 2 ^ 31) }
+        ensures long { IfErr result (IsOverBy (2 ^ 31 ≤ length (head.items ++ (joined portions.entry.items ++ (tail.items ++ rest.entry.now))))) }
     {
         let middle = size_of_portions(&portions)?;
         let behind = size_of_both(tail.len(), rest.len())?;

@@ -2,7 +2,8 @@
 
 ghost use Rattle.std.specs.Prelude.{◌≡◌, ◌⊎◌, IfErr, IfOk, Ok, Err};
 ghost use Rattle.source_feed.specs.Planned.{groups_under};
-ghost use Rattle.compaction.specs.Compacting.{HasGroup, IsCause, IsCompaction};
+ghost use Rattle.compaction.specs.Compacting.{HasGroup, IsCause, IsCompaction, IsOver};
+ghost use Rattle.compaction.specs.Private.Limits.{IsOverBy};
 ghost use Rattle.compaction.specs.Private.Written.{AreNamed, IsWrittenOver};
 
 use crate::base::{push_rows, write_end, write_fields, write_others};
@@ -80,7 +81,8 @@ fn with_base<'h>(
     cut: Cut<'h>,
 ) -> Result<CompactedFeed<'h>, WriteFault>
     requires { AreNamed feed.now.plan cut.fields.items rows.now }
-    ensures { IfOk result (λ new. IsWrittenOver feed.now.plan cut.entry.fields.items rows.now cut.entry.place.now cut.entry.others cut.entry.rest.now new) }
+    ensures over { IfOk result (λ new. IsWrittenOver feed.now.plan cut.entry.fields.items rows.now cut.entry.place.now cut.entry.others cut.entry.rest.now new) }
+    ensures long { IfErr result (IsOverBy (IsOver feed.now.plan cut.entry.fields.items rows.now cut.entry.place.now cut.entry.others cut.entry.rest.now)) }
 {
     let mut head = Vec::new(alloc);
     write_fields(alloc, &mut head, &cut.fields)?;

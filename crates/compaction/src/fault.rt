@@ -57,21 +57,32 @@ pub(crate) enum WriteFault {
 }
 
 impl From<AllocError> for WriteFault {
+    ghost use Rattle.std.specs.Prelude.{◌≡◌};
+    ghost use Rattle.compaction.specs.declared.fault.WriteFault.TheVariants.{Memory};
+
+    ghost from_gives = { λ _ fault. fault ≡ Memory };
+
     fn from(_: AllocError) -> WriteFault {
         WriteFault::Memory
     }
 }
 
 impl<T: Drop> From<AllocFailed<T>> for WriteFault {
+    ghost use Rattle.std.specs.Prelude.{◌≡◌};
+    ghost use Rattle.compaction.specs.declared.fault.WriteFault.TheVariants.{Memory};
+
+    ghost from_gives = { λ _ fault. fault ≡ Memory };
+
     fn from(_: AllocFailed<T>) -> WriteFault {
         WriteFault::Memory
     }
 }
 
 impl From<WriteFault> for CompactFault {
-    ghost use Rattle.compaction.specs.Compacting.{IsLimit};
+    ghost use Rattle.std.specs.Prelude.{◌≡◌};
+    ghost use Rattle.compaction.specs.Private.Limits.{refusal_of_write};
 
-    ghost from_gives = { λ _ fault. IsLimit fault };
+    ghost from_gives = { λ cause fault. fault ≡ refusal_of_write cause };
 
     fn from(fault: WriteFault) -> CompactFault {
         match fault {

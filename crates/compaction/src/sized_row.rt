@@ -1,8 +1,9 @@
 //! Rows that are to be written, each with the sizes of its parts.
 
-ghost use Rattle.std.specs.Prelude.{◌≡◌, ◌≤◌, ◌^◌, IfOk, length};
+ghost use Rattle.std.specs.Prelude.{◌≡◌, ◌≤◌, ◌^◌, IfOk, IfErr, length};
 ghost use Rattle.row_view.specs.WrittenRow.{IsWithinLimits, written_lengths, written_row, written_values};
 ghost use Rattle.json_pieces.specs.Telling.{Tells, at};
+ghost use Rattle.compaction.specs.Private.Limits.{IsOverBy};
 ghost use Rattle.compaction.specs.Private.Sized.{HasSizes, change_field, held_head, lengths_head, text_head};
 
 use crate::fault::WriteFault;
@@ -123,6 +124,7 @@ impl<'h> SizedRow<'h> {
     pub(crate) fn of(row: &RowBytes<'h>) -> Result<SizedRow<'h>, WriteFault>
         ensures row { IfOk result (λ sized. sized ≡ row.now) }
         ensures within { IfOk result (λ _. IsWithinLimits row.now) }
+        ensures long { IfErr result (IsOverBy (¬ IsWithinLimits row.now)) }
     {
         let sizes = sizes_of(row)?;
         if is_within(sizes) {

@@ -1,9 +1,10 @@
 //! The sizes of a row's parts.
 
-ghost use Rattle.std.specs.Prelude.{◌≡◌, ◌+◌, ◌≤◌, ◌^◌, IsTrue, IfOk, length};
+ghost use Rattle.std.specs.Prelude.{◌≡◌, ◌↔◌, ◌+◌, ◌<◌, ◌≤◌, ◌^◌, IsTrue, IfOk, IfErr, length};
 ghost use Rattle.proto_wire.specs.Varint.{shortest};
 ghost use Rattle.row_view.specs.ColumnValue.{column_value};
 ghost use Rattle.row_view.specs.WrittenRow.{length_number, value_bytes, written_lengths, written_values};
+ghost use Rattle.compaction.specs.Private.Limits.{IsOverBy};
 ghost use Rattle.compaction.specs.Private.Sized.{IsWithin, held_size, packed_size, plain_size, row_size, text_size};
 
 use crate::fault::WriteFault;
@@ -45,6 +46,7 @@ impl Sizes {
         ensures columns { IfOk result (λ sum. sum.columns ≡ self.columns + 1) }
         ensures lengths { IfOk result (λ sum. sum.lengths ≡ self.lengths + length (shortest (length_number (column_value column.now)))) }
         ensures values { IfOk result (λ sum. sum.values ≡ self.values + length (value_bytes (column_value column.now))) }
+        ensures long { IfErr result (IsOverBy (2 ^ 24 < length (value_bytes (column_value column.now)))) }
     {
         let value = value_of(column);
         if value.len() > ROW_BYTES {
@@ -63,6 +65,7 @@ pub(crate) fn sizes_of(row: &RowBytes<'_>) -> Result<Sizes, WriteFault>
     ensures columns { IfOk result (λ sizes. sizes.columns ≡ length row.now) }
     ensures lengths { IfOk result (λ sizes. sizes.lengths ≡ length (written_lengths row.now)) }
     ensures values { IfOk result (λ sizes. sizes.values ≡ length (written_values row.now)) }
+    ensures long { IfErr result (IsOverBy (2 ^ 24 < length (written_values row.now))) }
 {
     let mut sizes = Sizes {
         columns: 0,
@@ -130,7 +133,7 @@ pub(crate) fn row_size(lengths: usize, values: usize) -> usize
 
 /// Whether a row of these sizes is within the limits; one that was read is.
 pub(crate) fn is_within(sizes: Sizes) -> bool
-    ensures { IsTrue result → IsWithin sizes.columns sizes.lengths sizes.values }
+    ensures { IsTrue result ↔ IsWithin sizes.columns sizes.lengths sizes.values }
 {
     let Sizes {
         columns,

@@ -1,9 +1,11 @@
 //! Rows that wait to be written as one portion.
 
-ghost use Rattle.std.specs.Prelude.{◌≡◌, ◌↔◌, length, ◌++◌, [], ◌∷◌, IsTrue, IfSome, IfNone, OnOk};
+ghost use Rattle.std.specs.Prelude.{◌≡◌, ◌↔◌, length, ◌++◌, [], ◌∷◌, IsTrue, IfSome, IfNone, IfErr, OnOk};
+ghost use Rattle.row_view.specs.WrittenRow.{IsWithinLimits};
 ghost use Rattle.source_feed.specs.Planned.{source_of};
 ghost use Rattle.feed_bytes.specs.Inserts.{inserts};
-ghost use Rattle.compaction.specs.Private.Sized.{change_fields, joined};
+ghost use Rattle.compaction.specs.Private.Limits.{IsOverBy};
+ghost use Rattle.compaction.specs.Private.Sized.{change_fields, inserts_message, joined};
 ghost use Rattle.compaction.specs.Private.Written.{AddsEvents, AreOfOthers, AreWaiting, CanBePut, IsNameOf, IsPut, IsReady};
 
 use crate::fault::WriteFault;
@@ -13,7 +15,7 @@ use feed_bytes::{FieldBytes, Source};
 use filter_rule::Plan;
 use proto_wire::size_of_both;
 use row_view::RowBytes;
-use std::alloc::Global;
+use std::alloc::{AllocError, Global};
 use std::marker::Model;
 use std::mem;
 use vevent::events_are_read_again;
@@ -78,9 +80,10 @@ fn push_portion<'h>(
     name: &str,
     rows: Vec<SizedRow<'h>>,
     changes: usize,
-) -> Result<(), WriteFault>
+) -> Result<(), AllocError>
     requires { AreWaiting rows.items changes }
-    ensures { OnOk result (AddsEvents (joined portions.old.items) (joined portions.new.items) (inserts name.now rows.entry.items ∷ [])) }
+    ensures adds { OnOk result (AddsEvents (joined portions.old.items) (joined portions.new.items) (inserts name.now rows.entry.items ∷ [])) }
+    ensures bytes { OnOk result (joined portions.new.items ≡ joined portions.old.items ++ inserts_message name.now rows.entry.items) }
 {
     events_are_read_again();
     let portion = Portion::new(alloc, name, rows, changes)?;
@@ -109,7 +112,7 @@ impl<'h> Waiting<'h> {
         portions: &mut Vec<Portion<'h>>,
         plan: &Plan,
         fields: &[FieldBytes<'h>],
-    ) -> Result<(), WriteFault>
+    ) -> Result<(), AllocError>
         requires { CanBePut plan.now fields.now self.old }
         ensures put { OnOk result (IsPut plan.now self.old (joined portions.old.items) (joined portions.new.items)) }
         ensures emptied { OnOk result (self.new.rows ≡ []) }
@@ -135,7 +138,7 @@ impl<'h> Waiting<'h> {
         portions: &mut Vec<Portion<'h>>,
         plan: &Plan,
         fields: &[FieldBytes<'h>],
-    ) -> Result<(), WriteFault>
+    ) -> Result<(), AllocError>
         requires { CanBePut plan.now fields.now self.old }
         ensures { OnOk result (IsReady plan.now table self.old (joined portions.old.items) self.new (joined portions.new.items)) }
     {
@@ -147,7 +150,8 @@ impl<'h> Waiting<'h> {
 
     /// Lets a row of a table wait behind the others, which are of this table.
     pub(crate) fn push(&mut self, table: u8, row: &RowBytes<'h>) -> Result<(), WriteFault>
-        ensures { OnOk result (self.new ≡ record { table = table; rows = self.old.rows ++ row.now ∷ [] }) }
+        ensures waits { OnOk result (self.new ≡ record { table = table; rows = self.old.rows ++ row.now ∷ [] }) }
+        ensures long { IfErr result (IsOverBy (¬ IsWithinLimits row.now)) }
     {
         let row = SizedRow::of(row)?;
         let size = row.size();

@@ -2,7 +2,7 @@
 use Rattle.std.proofs.Common.{◌≡◌, ◌∙◌, ℕ, List, map, Option, None, Some, option_map, Result, Ok, Err, slice_get, refl, sym, ap, subst}
 use Rattle.std.proofs.lemmas.Option.{slice_get-map}
 use Rattle.std.specs.Arc.{arc_value}
-use Rattle.std.specs.Prelude.{MatchOption}
+use Rattle.std.specs.Prelude.{IsOk, MatchOption}
 use Rattle.std.specs.declared.alloc.Global.{Global}
 use Rattle.std.specs.declared.sync.Arc.{Arc}
 use Rattle.list_laws.specs.Outcome.{◌>>=◌}
@@ -14,9 +14,10 @@ use Rattle.vrepl_main.specs.Reasons.{Reason, no_stream, reason_of, RefusesInputs
 use Rattle.vrepl_main.specs.declared.refusal.CommandRefusal.{CommandRefusal}
 use Rattle.vrepl_main.specs.declared.refusal.CommandRefusal.TheVariants.{Memory}
 use Rattle.vrepl_compact.specs.Asked.{AskedFeed, plan_or_none}
-use Rattle.vrepl_compact.specs.Compacted.{IsCompacted, RefusesCompact}
+use Rattle.vrepl_compact.specs.Compacted.{IsCompacted, IsTold, RefusesCompact}
 use Rattle.vrepl_compact.specs.declared.inputs.CompactInputs.{CompactInputs}
 use Rattle.vrepl_compact.specs.declared.refusal.Uncompacted.{Uncompacted}
+use Rattle.vrepl_compact.specs.declared.refusal.Uncompacted.TheVariants.{Given, Limit, Feed}
 
 by_reason : {X Y : Type 0} (meant : Option Reason) (one : Result X Reason) (whole : Result Y Reason) → ((reason : Reason) → one ≡ Err reason → whole ≡ Err reason)
     → MatchOption meant ⊥ (λ reason. one ≡ Err reason) → MatchOption meant ⊥ (λ reason. whole ≡ Err reason)
@@ -33,9 +34,27 @@ pub compacted_behind : {X : Type 0} (inputs : CompactInputs) (one : Result X Rea
     → IsCompacted inputs (step x) groups rows written → IsCompacted inputs (one >>= step) groups rows written
 compacted_behind inputs one step x groups rows written e is = subst (λ r. IsCompacted inputs (r >>= step) groups rows written) (sym e) is
 
+pub told_behind : {X : Type 0} (one : Result X Reason) (step : X → Result AskedFeed Reason) (x : X) (groups rows size : ℕ) (line : List ℕ) → one ≡ Ok x → IsTold (step x) groups rows size line
+    → IsTold (one >>= step) groups rows size line
+told_behind one step x groups rows size line e is = subst (λ r. IsTold (r >>= step) groups rows size line) (sym e) is
+
 pub refused_behind : {X : Type 0} (inputs : CompactInputs) (uncompacted : Uncompacted) (one : Result X Reason) (step : X → Result AskedFeed Reason) (x : X) → one ≡ Ok x
     → RefusesCompact inputs uncompacted (step x) → RefusesCompact inputs uncompacted (one >>= step)
 refused_behind inputs uncompacted one step x e is = subst (λ r. RefusesCompact inputs uncompacted (r >>= step)) (sym e) is
+
+-- a result ends in one error alone
+pub one_error : {A E : Type 0} (r : Result A E) (x y : E) → r ≡ Err x → r ≡ Err y → x ≡ y
+one_error r x y e f = cc
+
+-- the refusal that is given
+given_in : CommandRefusal → Uncompacted → CommandRefusal
+given_in other (Given refusal) = refusal
+given_in other (Limit plan stream fault) = other
+given_in other (Feed plan fault) = other
+
+pub given_memory : (refusal : CommandRefusal) → Given refusal ≡ Given Memory → refusal ≡ Memory
+unfolding given_in
+given_memory refusal e = ap (given_in refusal) e
 
 -- ---- the plan
 
@@ -56,3 +75,7 @@ opened_as plan (Ok groups) feed e =
     let same : record { plan = plan; groups = groups } ≡ feed = same_ok (feed_under plan (Ok groups)) (record { plan = plan; groups = groups }) feed refl e in
     (ap (λ (f : FeedValue). Ok f.groups) same, ap (λ (f : FeedValue). f.plan) (sym same))
 opened_as plan (Err fault) feed e = cc
+
+-- and they are there
+pub opens_as : (plan : PlanValue) (groups : Result (List PlannedGroupValue) FeedFault) (feed : FeedValue) → feed_under plan groups ≡ Ok feed → IsOk groups
+opens_as plan groups feed e = subst IsOk (sym (opened_as plan groups feed e).0) refl

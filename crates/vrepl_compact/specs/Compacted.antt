@@ -1,16 +1,18 @@
 -- The feed of a stream without its past, why there is none, and what the command `compact` leaves of both (this profile).
-use Rattle.std.specs.Prelude.{◌≡◌, ◌⊎◌, ℕ, ◌-◌, List, codes, Option, Result, IsOkAnd, IfSome}
+use Rattle.std.specs.Prelude.{◌≡◌, ◌⊎◌, ℕ, ◌-◌, List, length, codes, Option, Result, IsOkAnd, IfSome}
 use Rattle.std.specs.Option.{option_map}
 use Rattle.std.specs.Arc.{arc_value}
 use Rattle.std.specs.List.{AllByRecursion}
 use Rattle.filter_rule.specs.PlanValue.{PlanValue}
 use Rattle.source_feed.specs.Planned.{FeedValue}
+use Rattle.source_feed.specs.Touches.{group_at}
 use Rattle.checkpoint_laws.specs.Saved.{SavedStream}
 use Rattle.compaction.specs.Compacting.{IsCause, IsCompaction}
 use Rattle.compaction_laws.specs.Laws.{IsFromBaseOn}
 use Rattle.compact_limit.specs.Limit.{SaysOf, IsLimit}
-use Rattle.compact_limit.specs.Refused.{meant_of, IsRefusedLimit}
+use Rattle.compact_limit.specs.Refused.{IsRefusedLimit, WantsMemory}
 use Rattle.compact_limit.specs.declared.fault.LimitFault.{LimitFault}
+use Rattle.compact_limit.specs.declared.fault.LimitFault.TheVariants as limit
 use Rattle.compaction.specs.declared.fault.CompactFault.{CompactFault}
 use Rattle.printing.specs.Printing.{Written, IsWritten, BreaksOff}
 use Rattle.vrepl_main.specs.Command.{Ends}
@@ -20,6 +22,7 @@ use Rattle.vrepl_main.specs.Reasons.{Reason, RefusesInputs}
 use Rattle.vrepl_main.specs.RefusalLine.{line_of}
 use Rattle.vrepl_compact.specs.Asked.{AskedFeed, compact_asked}
 use Rattle.vrepl_compact.specs.Refusals.{uncompacted_line}
+use Rattle.vrepl_compact.specs.Told.{told_line}
 use Rattle.vrepl_compact.specs.declared.inputs.CompactInputs.{CompactInputs}
 use Rattle.vrepl_compact.specs.declared.refusal.Uncompacted.{Uncompacted}
 use Rattle.vrepl_compact.specs.declared.refusal.Uncompacted.TheVariants.{Given, Limit, Feed}
@@ -34,9 +37,10 @@ position_named inputs = option_map (λ text. text.now) inputs.at
 abbrev pub IsLastReplaced : CompactInputs → AskedFeed → ℕ → Type 0
 IsLastReplaced inputs asked number = IsLimit asked.plans asked.feed inputs.stream (position_named inputs) (bytes_of inputs.checkpoints.items) number
 
--- what stands in the way of saying so, unless memory ran out
+-- what stands in the way of saying so; memory is wanted where nothing is known to stand in the way before
 abbrev pub IsUnlimited : CompactInputs → AskedFeed → LimitFault → Type 0
-IsUnlimited inputs asked fault = IfSome (meant_of fault) (IsRefusedLimit asked.plans asked.feed inputs.stream (position_named inputs) (bytes_of inputs.checkpoints.items))
+IsUnlimited inputs asked limit.Memory = WantsMemory asked.plans asked.feed inputs.stream (position_named inputs) (bytes_of inputs.checkpoints.items)
+IsUnlimited inputs asked fault = IsRefusedLimit asked.plans asked.feed inputs.stream (position_named inputs) (bytes_of inputs.checkpoints.items) fault
 
 -- ---- the new feed
 
@@ -55,6 +59,10 @@ pub record IsCompactedOf (inputs : CompactInputs) (asked : AskedFeed) (groups ro
 abbrev pub IsCompacted : CompactInputs → Result AskedFeed Reason → ℕ → ℕ → List ℕ → Type 0
 IsCompacted inputs asked groups rows written = IsOkAnd asked (λ a. IsCompactedOf inputs a groups rows written)
 
+-- a line tells what was compacted of it: the groups, up to the position of the last of them, the rows, and the bytes of both feeds
+abbrev pub IsTold : Result AskedFeed Reason → ℕ → ℕ → ℕ → List ℕ → Type 0
+IsTold asked groups rows size line = IsOkAnd asked (λ a. IfSome (group_at a.feed groups) (λ group. line ≡ told_line groups group.position rows (length a.bytes) size))
+
 -- ---- refusals
 
 -- what stands first in the feed up to the group that the inputs say
@@ -65,7 +73,7 @@ IsUncompacted inputs asked fault = (number : ℕ) × IsLastReplaced inputs asked
 -- or else what stands in the feed up to there; unless memory ran out.
 abbrev pub RefusesCompact : CompactInputs → Uncompacted → Result AskedFeed Reason → Type 0
 RefusesCompact inputs (Given refusal) asked = RefusesInputs refusal asked
-RefusesCompact inputs (Limit plan stream fault) asked = IsOkAnd asked (λ a. (stream ≡ inputs.stream) × IsUnlimited inputs a fault)
+RefusesCompact inputs (Limit plan stream fault) asked = IsOkAnd asked (λ a. (arc_value plan ≡ a.feed.plan) × (stream ≡ inputs.stream) × IsUnlimited inputs a fault)
 RefusesCompact inputs (Feed plan fault) asked = IsOkAnd asked (λ a. (arc_value plan ≡ a.feed.plan) × IsUncompacted inputs a fault)
 
 -- ---- what the command leaves

@@ -2,3 +2,4 @@ pub mod Asked
 pub mod Compacted
 pub mod Private
 pub mod Refusals
+pub mod Told

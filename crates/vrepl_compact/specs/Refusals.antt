@@ -1,5 +1,5 @@
 -- The lines of refusals (this profile).
-use Rattle.std.specs.Prelude.{ℕ, List}
+use Rattle.std.specs.Prelude.{ℕ, List, [], ◌∷◌, ◌++◌, codes}
 use Rattle.std.specs.Arc.{arc_value}
 use Rattle.filter_rule.specs.PlanTable.{TableValue}
 use Rattle.source_feed.specs.declared.fault.FeedFault.TheVariants as group
@@ -8,7 +8,6 @@ use Rattle.compact_limit.specs.declared.fault.LimitFault.{LimitFault}
 use Rattle.compact_limit.specs.declared.fault.LimitFault.TheVariants as limit
 use Rattle.compaction.specs.declared.fault.CompactFault.{CompactFault}
 use Rattle.compaction.specs.declared.fault.CompactFault.TheVariants as feed
-use Rattle.vrepl_compact.specs.declared.refusal.TheConstants.{UNKNOWN_TABLE}
 use Rattle.vrepl_compact.specs.declared.refusal.Uncompacted.{Uncompacted}
 use Rattle.vrepl_compact.specs.declared.refusal.Uncompacted.TheVariants as refusal
 use Rattle.vrepl_main.specs.Refusals.{refusal_line}
@@ -25,7 +24,7 @@ limit_line tables stream limit.Memory = refusal_line Memory
 -- why a feed isn't compacted up to a group: 91, 123, 90 or 95
 abbrev pub feed_line : List TableValue → CompactFault → List ℕ
 feed_line tables feed.NoCut = refusal_line (Feed (group.NoGroup 0))
-feed_line tables feed.UnknownTable = UNKNOWN_TABLE.now
+feed_line tables feed.UnknownTable = codes "refused 123" ++ 10 ∷ []
 feed_line tables (feed.Unsound fault) = resume_line tables (resume.Unsound fault)
 feed_line tables feed.TooLong = refusal_line (Feed group.FeedTooLong)
 feed_line tables feed.Memory = refusal_line Memory

@@ -1,19 +1,26 @@
 //! The command `compact`.
 
-ghost use Rattle.std.specs.Prelude.{◌≡◌, IfErr, IfOk, Ok, map};
+ghost use Rattle.std.specs.Prelude.{◌≡◌, ◌⊎◌, ℕ, List, Err, IfErr, IfOk, IfSome, IsOk, Ok, length, map};
+ghost use Rattle.std.specs.String.{string_bytes};
 ghost use Rattle.std.specs.Arc.{arc_value};
-ghost use Rattle.source_feed.specs.Planned.{groups_under};
+ghost use Rattle.source_feed.specs.Planned.{groups_under, source_of};
+ghost use Rattle.source_feed.specs.TakesMemory.{WantsMemory};
+ghost use Rattle.source_feed.specs.Touches.{group_at};
 ghost use Rattle.vrepl_compact.specs.Asked.{asked_as, asked_in, asked_of, compact_asked};
-ghost use Rattle.vrepl_compact.specs.Compacted.{CompactEnds, IsCompacted, IsPrinted, RefusesCompact};
-ghost use Rattle.vrepl_compact.specs.Private.Faults.{IsOfFeed};
+ghost use Rattle.vrepl_compact.specs.Compacted.{CompactEnds, IsCompacted, IsPrinted, IsTold, RefusesCompact};
+ghost use Rattle.vrepl_compact.specs.Private.Faults.{IsGivenWhere, IsOfFeed};
+ghost use Rattle.vrepl_compact.specs.Told.{groups_text, sizes_text, told_line};
+ghost use Rattle.vrepl_compact.specs.declared.refusal.Uncompacted.TheVariants.{Given};
 ghost use Rattle.vrepl_main.specs.Given.{given_value};
+ghost use Rattle.vrepl_main.specs.declared.refusal.CommandRefusal.TheVariants.{Memory};
 
 use crate::inputs::CompactInputs;
-use crate::limit::last_replaced;
+use crate::limit::{last_replaced, unlimited};
 use crate::opening::{PlannedInputs, open_feed, plan_of, planned};
 use crate::refusal::{Uncompacted, refuse_uncompacted};
 use compaction::{CompactFault, CompactedFeed, Compaction, compact as compact_feed};
 use filter_rule::Plan;
+use gtid_set::GtidSet;
 use pace::Meter;
 use printing::Out;
 use source_feed::Feed;
@@ -90,6 +97,7 @@ pub fn compacted<'f, M: Meter>(
     meter: &M,
 ) -> Result<NewFeed<'f>, Uncompacted>
     ensures compacted { IfOk result (λ c. IsCompacted inputs.now (asked_in inputs.now (map arc_value planned.now.plans.items) (given_value planned.now.given)) c.made.groups c.made.rows c.made.feed) }
+    ensures told { IfOk result (λ c. IsTold (asked_in inputs.now (map arc_value planned.now.plans.items) (given_value planned.now.given)) c.made.groups c.made.rows (length c.made.feed) (string_bytes c.line)) }
     ensures refused { IfErr result (λ uncompacted. RefusesCompact inputs.now uncompacted (asked_in inputs.now (map arc_value planned.now.plans.items) (given_value planned.now.given))) }
 {
     let plan = plan_of(&planned.plans, inputs.stream)?;
@@ -107,6 +115,7 @@ fn compacted_as<'f, M: Meter>(
     meter: &M,
 ) -> Result<NewFeed<'f>, Uncompacted>
     ensures compacted { IfOk result (λ c. IsCompacted inputs.now (asked_as (map arc_value plans.now) (given_value given.now) (arc_value plan.now)) c.made.groups c.made.rows c.made.feed) }
+    ensures told { IfOk result (λ c. IsTold (asked_as (map arc_value plans.now) (given_value given.now) (arc_value plan.now)) c.made.groups c.made.rows (length c.made.feed) (string_bytes c.line)) }
     ensures refused { IfErr result (λ uncompacted. RefusesCompact inputs.now uncompacted (asked_as (map arc_value plans.now) (given_value given.now) (arc_value plan.now))) }
 {
     match given.bytes() {
@@ -125,10 +134,14 @@ fn compacted_of<'h, M: Meter>(
     meter: &M,
 ) -> Result<NewFeed<'h>, Uncompacted>
     ensures compacted { IfOk result (λ c. IsCompacted inputs.now (asked_of (map arc_value plans.now) (arc_value plan.now) bytes.now) c.made.groups c.made.rows c.made.feed) }
+    ensures told { IfOk result (λ c. IsTold (asked_of (map arc_value plans.now) (arc_value plan.now) bytes.now) c.made.groups c.made.rows (length c.made.feed) (string_bytes c.line)) }
     ensures refused { IfErr result (λ uncompacted. RefusesCompact inputs.now uncompacted (asked_of (map arc_value plans.now) (arc_value plan.now) bytes.now)) }
+    // Memory is wanted as `Feed::open` wants it, and else of a feed that opens.
+    ensures memory { result ≡ Err (Given Memory) → WantsMemory bytes.now (source_of (arc_value plan.now)) ⊎ IsOk (groups_under bytes.now (arc_value plan.now)) }
 {
     let feed = open_feed(alloc, bytes, plan)?;
-    let new = compacted_feed(alloc, inputs, plans, bytes, &feed, meter)?;
+    let plan = Arc::clone(plan)?;
+    let new = compacted_feed(alloc, inputs, plans, plan, bytes, &feed, meter)?;
     Ok(new)
 }
 
@@ -137,31 +150,69 @@ fn compacted_feed<'h, M: Meter>(
     alloc: Global,
     inputs: &CompactInputs<'_>,
     plans: &[Arc<Plan>],
+    plan: Arc<Plan>,
     bytes: &'h [u8],
     feed: &Feed<'h>,
     meter: &M,
 ) -> Result<NewFeed<'h>, Uncompacted>
-    requires { groups_under bytes.now feed.now.plan ≡ Ok feed.now.groups }
+    requires bytes { groups_under bytes.now feed.now.plan ≡ Ok feed.now.groups }
+    requires plan { arc_value plan ≡ feed.now.plan }
     ensures compacted { IfOk result (λ c. IsCompacted inputs.now (Ok (record { plans = map arc_value plans.now; bytes = bytes.now; feed = feed.now })) c.made.groups c.made.rows c.made.feed) }
+    ensures told { IfOk result (λ c. IsTold (Ok (record { plans = map arc_value plans.now; bytes = bytes.now; feed = feed.now })) c.made.groups c.made.rows (length c.made.feed) (string_bytes c.line)) }
     ensures refused { IfErr result (λ uncompacted. RefusesCompact inputs.now uncompacted (Ok (record { plans = map arc_value plans.now; bytes = bytes.now; feed = feed.now }))) }
+    // Memory is wanted for the line alone, behind a feed that was compacted: it hides no refusal.
+    ensures memory { IfErr result (IsGivenWhere ((groups : ℕ) × (rows : ℕ) × (written : List ℕ) × IsCompacted inputs.now (Ok (record { plans = map arc_value plans.now; bytes = bytes.now; feed = feed.now })) groups rows written)) }
 {
-    let number = last_replaced(alloc, inputs, plans, feed)?;
+    let number = match last_replaced(alloc, inputs, plans, feed) {
+        Ok(number) => number,
+        Err(fault) => return Err(unlimited(plan, inputs.stream, fault)),
+    };
     let made = match compact_feed(alloc, bytes, feed, number, inputs.unknown, meter) {
         Ok(made) => made,
-        Err(fault) => return Err(uncompacted_by(feed, fault)),
+        Err(fault) => return Err(uncompacted_by(plan, fault)),
     };
     let line = line_of(alloc, bytes, feed, &made)?;
     Ok(NewFeed { made, line })
 }
 
 /// The refusal by a fault of the feed.
-fn uncompacted_by(feed: &Feed<'_>, fault: CompactFault) -> Uncompacted
-    ensures { IsOfFeed feed.now fault result }
+fn uncompacted_by(plan: Arc<Plan>, fault: CompactFault) -> Uncompacted
+    ensures { IsOfFeed (arc_value plan) fault result }
 {
-    match Arc::clone(feed.plan()) {
-        Ok(plan) => Uncompacted::Feed { plan, fault },
-        Err(_) => Uncompacted::Given(CommandRefusal::Memory),
-    }
+    Uncompacted::Feed { plan, fault }
+}
+
+/// How many groups, and up to which position.
+fn groups_text(alloc: Global, groups: u32, position: &GtidSet) -> Result<String, AllocError>
+    ensures { IfOk result (λ text. string_bytes text ≡ groups_text groups position.now) }
+{
+    let text = format!(in alloc; "compacted {groups} groups up to {position}")?;
+    Ok(text)
+}
+
+/// How many rows, and the bytes before and after.
+fn sizes_text(alloc: Global, rows: usize, old: usize, new: usize) -> Result<String, AllocError>
+    ensures { IfOk result (λ text. string_bytes text ≡ sizes_text rows old new) }
+{
+    let text = format!(in alloc; " into {rows} rows: {old} bytes to {new}\n")?;
+    Ok(text)
+}
+
+/// The line that tells of so many groups up to a position, rows, and bytes before and after.
+fn told(
+    alloc: Global,
+    groups: u32,
+    position: &GtidSet,
+    rows: usize,
+    old: usize,
+    new: usize,
+) -> Result<String, AllocError>
+    ensures { IfOk result (λ line. string_bytes line ≡ told_line groups position.now rows old new) }
+{
+    let groups = groups_text(alloc, groups, position)?;
+    let sizes = sizes_text(alloc, rows, old, new)?;
+    let line = format!(in alloc; "{groups}{sizes}")?;
+    Ok(line)
 }
 
 /// The line that tells what was done.
@@ -170,13 +221,18 @@ fn line_of(
     bytes: &[u8],
     feed: &Feed<'_>,
     made: &Compaction<'_>,
-) -> Result<String, AllocError> {
-    let (groups, rows) = (made.groups, made.rows);
-    let (old, new) = (bytes.len(), made.feed.size());
-    match feed.position(groups) {
+) -> Result<String, AllocError>
+    ensures { IfOk result (λ line. IfSome (group_at feed.now made.now.groups) (λ group. string_bytes line ≡ told_line made.now.groups group.position made.now.rows (length bytes.now) (length made.now.feed))) }
+{
+    match feed.position(made.groups) {
         None => Ok(String::new(alloc)),
-        Some(position) => format!(in alloc;
-            "compacted {groups} groups up to {position} into {rows} rows: {old} bytes to {new}\n"
+        Some(position) => told(
+            alloc,
+            made.groups,
+            position,
+            made.rows,
+            bytes.len(),
+            made.feed.size(),
         ),
     }
 }

@@ -1,16 +1,18 @@
 //! The workflow and the feed of a stream, as they are given.
 
-ghost use Rattle.std.specs.Prelude.{◌≡◌, IfErr, IfOk, Ok, map, slice_get};
+ghost use Rattle.std.specs.Prelude.{◌≡◌, ◌⊎◌, Err, IfErr, IfOk, IsOk, Ok, map, slice_get};
 ghost use Rattle.std.specs.Option.{option_copied};
 ghost use Rattle.std.specs.Arc.{arc_value};
 ghost use Rattle.filter_rule.specs.Reading.{plans_of};
-ghost use Rattle.source_feed.specs.Planned.{groups_under};
+ghost use Rattle.source_feed.specs.Planned.{groups_under, source_of};
+ghost use Rattle.source_feed.specs.TakesMemory.{WantsMemory};
 ghost use Rattle.vrepl_compact.specs.Asked.{asked_in, compact_asked, plan_or_none};
 ghost use Rattle.vrepl_compact.specs.Compacted.{RefusesCompact};
 ghost use Rattle.vrepl_main.specs.Given.{given_value};
 ghost use Rattle.vrepl_main.specs.HexText.{feed_bytes, hex_bytes};
 ghost use Rattle.vrepl_main.specs.Opening.{feed_under, said_plans};
 ghost use Rattle.vrepl_main.specs.Reasons.{GivesOfInputs, RefusesInputs};
+ghost use Rattle.vrepl_main.specs.declared.refusal.CommandRefusal.TheVariants.{Memory};
 
 use crate::inputs::CompactInputs;
 use crate::refusal::Uncompacted;
@@ -104,7 +106,9 @@ pub(crate) fn open_feed<'h>(
     bytes: &'h [u8],
     plan: &Arc<Plan>,
 ) -> Result<Feed<'h>, CommandRefusal<'static>>
-    ensures { GivesOfInputs (λ feed. feed) result (feed_under (arc_value plan.now) (groups_under bytes.entry.now (arc_value plan.now))) }
+    ensures given { GivesOfInputs (λ feed. feed) result (feed_under (arc_value plan.now) (groups_under bytes.entry.now (arc_value plan.now))) }
+    // Memory is wanted as `Feed::open` wants it.
+    ensures memory { result ≡ Err Memory → WantsMemory bytes.entry.now (source_of (arc_value plan.now)) ⊎ IsOk (groups_under bytes.entry.now (arc_value plan.now)) }
 {
     let feed = Feed::open(alloc, bytes, plan)?;
     Ok(feed)

@@ -1,6 +1,6 @@
 //! Why a feed isn't compacted, and the line that says so.
 
-ghost use Rattle.std.specs.Prelude.{◌≡◌};
+ghost use Rattle.std.specs.Prelude.{◌≡◌, ◌∷◌, ◌++◌, [], codes};
 ghost use Rattle.std.specs.Arc.{arc_value};
 ghost use Rattle.vrepl_compact.specs.Refusals.{feed_line, limit_line, uncompacted_line};
 ghost use Rattle.vrepl_main.specs.Printing.{PrintsOrBreaks};
@@ -14,9 +14,6 @@ use source_feed::FeedFault;
 use std::alloc::AllocError;
 use std::sync::Arc;
 use vrepl_main::{CommandRefusal, Unfollowed, refuse, refuse_unfollowed};
-
-/// The line of a feed that has rows which would be lost.
-const UNKNOWN_TABLE: &str = "refused 123\n";
 
 /// Why a feed isn't compacted.
 #[derive(Drop)]
@@ -65,17 +62,24 @@ impl From<AllocError> for Uncompacted {
     }
 }
 
-/// Prints the line of rows that would be lost.
-fn print_unknown<E: Out>(err: &mut E) -> Result<(), OutFailed>
-    ensures { PrintsOrBreaks (E.written err.old) (E.written err.new) UNKNOWN_TABLE.now }
+/// The line of rows that would be lost.
+fn unknown_line() -> &'static [u8]
+    ensures { result.now ≡ codes "refused 123" ++ 10 ∷ [] }
 {
-    put_all(err, UNKNOWN_TABLE.as_bytes())
+    b"refused 123\n".as_slice()
+}
+
+/// Prints it.
+fn print_unknown<E: Out>(err: &mut E) -> Result<(), OutFailed>
+    ensures { PrintsOrBreaks (E.written err.old) (E.written err.new) (codes "refused 123" ++ 10 ∷ []) }
+{
+    put_all(err, unknown_line())
 }
 
 /// The status 1, behind the line of rows that would be lost.
 fn refuse_unknown<E: Out>(err: &mut E) -> u8
     ensures status { result ≡ 1 }
-    ensures line { PrintsOrBreaks (E.written err.old) (E.written err.new) UNKNOWN_TABLE.now }
+    ensures line { PrintsOrBreaks (E.written err.old) (E.written err.new) (codes "refused 123" ++ 10 ∷ []) }
 {
     let _printed = print_unknown(err);
     1

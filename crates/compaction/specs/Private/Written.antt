@@ -14,8 +14,8 @@ use Rattle.event_laws.specs.WrittenMessages.{written_messages}
 use Rattle.feed_bytes.specs.FieldBytes.{FieldBytesValue}
 use Rattle.feed_bytes.specs.Inserts.{inserts}
 use Rattle.compaction_laws.specs.Portions.{Portion, event_of, rows_of, IsOfOneTable}
-use Rattle.compaction.specs.Compacting.{others_message}
-use Rattle.compaction.specs.Private.Sized.{change_fields}
+use Rattle.compaction.specs.Compacting.{others_message, portion_message}
+use Rattle.compaction.specs.Private.Sized.{change_fields, inserts_message}
 
 -- messages were written behind what was there, and their events are read as these
 pub record AddsEvents (old new : List ℕ) (events : List EventValue) : Type 0 where
@@ -63,6 +63,7 @@ pub record IsPortionPut (plan : PlanValue) (waiting : WaitingValue) (old new : L
   pub name : List ℕ
   pub named : IsNameOf plan waiting.table name
   pub adds : AddsEvents old new (inserts name waiting.rows ∷ [])
+  pub bytes : new ≡ old ++ inserts_message name waiting.rows
 
 -- what waits was written, if something did
 abbrev pub IsPut : PlanValue → WaitingValue → List ℕ → List ℕ → Type 0
@@ -78,6 +79,7 @@ pub record AddsRows (plan : PlanValue) (old new : List ℕ) (rows : ImageRows) :
   pub each_portion : AllByRecursion (IsOfOneTable plan) portions
   pub are : rows_of portions ≡ rows
   pub adds : AddsEvents old new (map event_of portions)
+  pub bytes : new ≡ old ++ written_messages (map portion_message portions)
 
 -- the events of a base were written, with portions that are these rows
 pub record IsBase (plan : PlanValue) (old new : List ℕ) (fields : List EventValue) (rows : ImageRows) (place : EventValue) : Type 0 where

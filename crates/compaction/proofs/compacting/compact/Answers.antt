@@ -12,7 +12,7 @@ with_base-requires g c =
 pub returns-clause-compacted : goal.returns-clause-compacted
 returns-clause-compacted g c =
     let cut = c.in_ok-cut.cut in
-    let w = c.in_ok-new.ensures in
+    let w = c.in_ok-new.ensures.over in
     is_compaction c.bytes_are_compacted.ensures c.messages_are_read_again.ensures c.args.feed.now c.args.bytes.now c.args.unknown c.args.number cut.fields.items cut.place.now cut.others cut.rest.now w.base c.in_ok-rows.rows
     c.plan.ensures.whole c.requires c.in_ok-cut.ensures.cuts c.in_ok-rows.ensures.sound c.in_ok-rows.ensures.left w.adds c.in_ok-new.new w.parts w.short c.len.result c.len.ensures
 
@@ -24,4 +24,7 @@ returns-in_err-rows-clause-cause g c =
 pub returns-in_err-new-clause-cause : goal.returns-in_err-new-clause-cause
 returns-in_err-new-clause-cause g c =
     let p = err_from_is_err_and c.from_residual-in_err-new.result c.from_residual-in_err-new.ensures.1 in
-    rw p.1 (limit_stands c.args.feed.now c.args.bytes.now c.args.unknown c.args.number p.0 c.in_ok-cut.ensures.cuts.has c.in_ok-cut.ensures.cuts.keeps c.in_ok-rows.ensures.sound p.2)
+    let cut = c.in_ok-cut.cut in
+    rw (p.1, p.2)
+    (limit_stands c.args.feed.now c.args.bytes.now c.args.unknown c.args.number cut.fields.items cut.place.now cut.others cut.rest.now c.in_ok-rows.rows c.in_err-new.field-0.0 c.in_ok-cut.ensures.cuts c.in_ok-rows.ensures.sound
+    c.in_ok-rows.ensures.left c.in_err-new.ensures.long)

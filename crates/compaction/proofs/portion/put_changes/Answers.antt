@@ -1,4 +1,4 @@
-use Rattle.std.proofs.Common.{◌+◌, ◌++◌, ◌∙◌, ap, drop, sym}
+use Rattle.std.proofs.Common.{◌+◌, ap, drop}
 use Rattle.std.proofs.lemmas.List.{drop_all}
 use Rattle.json_pieces.proofs.TellLaws.{starts, moves, ends}
 use Rattle.compaction.specs.Private.Sized.{change_field, change_fields}

@@ -1,4 +1,4 @@
-use Rattle.std.proofs.Common.{◌≡◌, ◌∙◌, ◌+◌, ◌≤◌, ◌^◌, ◌∷◌, ◌++◌, arith, length, refl, sym, ap, subst}
+use Rattle.std.proofs.Common.{◌≡◌, ◌∙◌, ◌≤◌, ◌^◌, ◌++◌, arith, length, sym, ap, subst}
 use Rattle.std.proofs.lemmas.List.{length-append}
 use Rattle.proto_wire.specs.Varint.{shortest}
 use Rattle.row_view.specs.ColumnValue.{column_value}

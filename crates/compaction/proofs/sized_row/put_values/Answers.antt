@@ -1,6 +1,5 @@
 use Rattle.std.proofs.Common.{◌≡◌, ◌∙◌, ◌++◌, sym, ap, subst}
-use Rattle.row_view.specs.ColumnValue.{column_value}
-use Rattle.row_view.specs.WrittenRow.{value_bytes, written_values}
+use Rattle.row_view.specs.WrittenRow.{written_values}
 use Rattle.json_pieces.specs.Telling.{IsToldUpTo, at}
 use Rattle.json_pieces.proofs.TellLaws.{starts, moves, ends}
 use Rattle.compaction.proofs.sized_row.put_values.Goals as goal

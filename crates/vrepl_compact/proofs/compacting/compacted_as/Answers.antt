@@ -11,3 +11,6 @@ returns-in-Some-clause-compacted g c = rw (sym c.in-Some.ensures) c.compacted_of
 
 pub returns-in-Some-clause-refused : goal.returns-in-Some-clause-refused
 returns-in-Some-clause-refused g c = rw (sym c.in-Some.ensures) c.compacted_of.ensures.refused
+
+pub returns-in-Some-clause-told : goal.returns-in-Some-clause-told
+returns-in-Some-clause-told g c = rw (sym c.in-Some.ensures) c.compacted_of.ensures.told
