@@ -10,6 +10,7 @@ what stands in them is a Table, what the feed does with its rows a Shape; `ten` 
 in one thing.
 """
 import dataclasses
+import functools
 import hashlib
 import itertools
 import json
@@ -55,12 +56,29 @@ def two_part_cells(number, version):
     return b"%d" % (number // 100), b"item %02d" % (number % 100), b"value of row %d" % (number + version)
 
 
+def eight_number_cells(number, version):
+    return *(b"%c" % digit for digit in b"%08d" % number), b"value of row %d" % (number + version)
+
+
+def eight_text_cells(number, version):
+    return *(b"part %c" % digit for digit in b"%08d" % number), b"value of row %d" % (number + version)
+
+
+def of_numbers(count):
+    """A table of so many columns, all of them numbers."""
+    columns = [NUMBER, *((f"column_{it}", "INT64") for it in range(1, count))]
+    return Table(columns, ["id"], lambda number, version: [b"%d" % number, *(b"%d" % (number % 10 + version + it) for it in range(1, count))])
+
+
 NUMBER, VALUE = ("id", "INT64"), ("v", "VARCHAR")
 PLAIN = Table([NUMBER, VALUE], ["id"], plain_cells)
 SHORT = Table([NUMBER, VALUE], ["id"], short_cells)
 WIDE = Table([NUMBER, ("name", "VARCHAR"), ("mail", "VARCHAR"), ("visits", "INT32"), ("address", "VARCHAR"), ("note", "TEXT")], ["id"], wide_cells)
 TEXT_KEY = Table([("name", "VARCHAR"), VALUE], ["name"], text_cells)
 TWO_PARTS = Table([("owner", "INT64"), ("item", "VARCHAR"), VALUE], ["owner", "item"], two_part_cells)
+PARTS = [f"part_{it}" for it in range(1, 9)]
+EIGHT_NUMBERS = Table([*((it, "INT64") for it in PARTS), VALUE], PARTS, eight_number_cells)
+EIGHT_TEXTS = Table([*((it, "VARCHAR") for it in PARTS), VALUE], PARTS, eight_text_cells)
 
 
 def inserts(numbers, _):
@@ -68,18 +86,18 @@ def inserts(numbers, _):
     return ((None, (number, 0)) for number in numbers)
 
 
-def mixed(numbers, draw):
-    """Six of ten changes insert; three update and one deletes a row drawn from all that stand."""
+def mixed(numbers, draw, inserted=0.6, updated=0.3):
+    """Six of ten changes insert where nothing else is said; three update and one deletes a row drawn from all that stand."""
     standing = []
     while True:
         kind = draw.random()
-        if kind < 0.6 or not standing:
+        if kind < inserted or not standing:
             standing.append((next(numbers), 0))
             yield None, standing[-1]
             continue
         at = draw.randrange(len(standing))
         before = standing[at]
-        if kind < 0.9:
+        if kind < inserted + updated:
             standing[at] = before[0], before[1] + 1
             yield before, standing[at]
         else:
@@ -88,15 +106,30 @@ def mixed(numbers, draw):
             yield before, None
 
 
-def updates(numbers, draw):
-    """A thousand rows are inserted; from then on each change updates one drawn from them."""
+def of_a_thousand(numbers, draw, after):
+    """A thousand rows are inserted; from then on each change puts another one in the place of a row drawn from them."""
     standing = [(number, 0) for number in itertools.islice(numbers, 1000)]
     yield from ((None, it) for it in list(standing))
     while True:
         at = draw.randrange(len(standing))
         before = standing[at]
-        standing[at] = before[0], before[1] + 1
+        standing[at] = after(before, numbers)
         yield before, standing[at]
+
+
+def updates(numbers, draw):
+    return of_a_thousand(numbers, draw, lambda before, _: (before[0], before[1] + 1))
+
+
+def moves(numbers, draw):
+    """The row gets the next number, and so another key."""
+    return of_a_thousand(numbers, draw, lambda before, numbers: (next(numbers), before[1]))
+
+
+def deletes(numbers, draw):
+    """As `moves`, in two changes: the one deletes, the other inserts."""
+    for before, after in moves(numbers, draw):
+        yield from ((before, None), (None, after)) if before else ((None, after),)
 
 
 @dataclasses.dataclass(frozen=True)
@@ -110,6 +143,9 @@ class Shape:
     streams: int = 1
     filter: str = ""
     rows: int = None  # how many changes all feeds have; where it isn't said, so many as fill the megabytes
+    tables: int = 1  # how many tables of these columns the feed has; a group is of one of them, in turn
+    together: bool = False  # each group has a row of each of them instead
+    unknown: int = 0  # how many of them, from the last on, the workflow lacks
     others: int = 0  # further tables of the workflow, of 32 columns each, which no feed names
 
 
@@ -120,14 +156,28 @@ SHAPES = [
     Shape("hundred", "a hundred rows a group", group=100),
     Shape("short", "rows of a number and one byte", SHORT),
     Shape("wide", "rows of some 130 bytes in six columns", WIDE),
+    Shape("wide-mixed", "the same, of which 25 of 100 changes update and ten delete", WIDE, changes=functools.partial(mixed, inserted=0.65, updated=0.25)),
+    Shape("two-of-six", "two of these six columns picked", WIDE, filter="select id, name from t"),
+    Shape("six-turned", "all six picked, from the last to the first", WIDE, filter="select note, address, visits, mail, name, id from t"),
     Shape("mixed", "six of ten changes insert, three update, one deletes", changes=mixed),
     Shape("updates", "updates of a thousand rows", changes=updates),
+    Shape("deletes", "a thousand rows, of which one is deleted and another one inserted in turn", changes=deletes),
+    Shape("moves", "changes of the key of a thousand rows", changes=moves),
     Shape("text", "texts of 20 bytes as keys", TEXT_KEY),
     Shape("text-no-order", "the same in no order", TEXT_KEY, order="none"),
     Shape("two-parts", "keys of a number and a text", TWO_PARTS),
+    Shape("eight-numbers", "keys of eight numbers", EIGHT_NUMBERS),
+    Shape("eight-no-order", "the same in no order", EIGHT_NUMBERS, order="none"),
+    Shape("eight-texts", "keys of eight texts", EIGHT_TEXTS),
     Shape("hash", "a filter by the hash of the key, which half the rows pass", filter="select * from t where in_keyrange(id, 'binary_md5', '-80')"),
     Shape("falling", "keys falling", order="falling"),
     Shape("no-order", "keys in no order", order="none"),
+    Shape("tables-20", "20 tables of 20 columns, one row a group", of_numbers(20), group=1, tables=20),
+    Shape("tables-64", "64 tables of two columns, one row a group", group=1, tables=64),
+    Shape("tables-64-wide", "64 tables of 64 columns, one row a group", of_numbers(64), group=1, tables=64),
+    Shape("together-20", "20 tables of two columns, a row of each in each group", group=20, tables=20, together=True),
+    Shape("together-64", "64 tables of two columns, a row of each in each group", group=64, tables=64, together=True),
+    Shape("unknown", "half of the groups are of a table that the workflow lacks", tables=2, unknown=1),
     Shape("streams-2", "2 streams", streams=2),
     Shape("streams-4", "4 streams", streams=4),
     Shape("streams-64", "64 streams", streams=64),
@@ -135,19 +185,24 @@ SHAPES = [
 BY_ROWS = [Shape(f"rows-{rows}", f"keys in no order, {rows:,} rows", order="none", rows=rows) for rows in (100_000, 400_000, 1_600_000)]
 
 
+def names_of(shape):
+    """The feed's tables."""
+    return ["t", *(f"t_{it}" for it in range(1, shape.tables))]
+
+
 def workflow(shape):
     bounds = ["", *(f"{256 * it // shape.streams:02x}" for it in range(1, shape.streams)), ""]
     rules = {"rules": [{"match": "t" if shape.filter else "/.*", "filter": shape.filter}]}
-    table = {"name": "t", "columns": shape.table.columns, "key": shape.table.key}
+    tables = [{"name": it, "columns": shape.table.columns, "key": shape.table.key} for it in names_of(shape)[: shape.tables - shape.unknown]]
     columns = [NUMBER, *((f"column_{it}", "VARCHAR") for it in range(1, 32))]
     others = [{"name": f"other_{it}", "columns": columns, "key": ["id"]} for it in range(shape.others)]
     streams = [{"shard": f"{low}-{high}", "filter": rules} for low, high in zip(bounds, bounds[1:])]
-    return {"keyspace": "ks", "tables": [table, *others], "streams": streams}
+    return {"keyspace": "ks", "tables": [*tables, *others], "streams": streams}
 
 
-def field_of(table):
-    columns = (text(2, text(1, name.encode()) + scalar(2, TYPES[kind])) for name, kind in table.columns)
-    return event(13, text(6, text(1, b"t") + b"".join(columns)))
+def field_of(table, name):
+    columns = (text(2, text(1, column.encode()) + scalar(2, TYPES[kind])) for column, kind in table.columns)
+    return event(13, text(6, text(1, name.encode()) + b"".join(columns)))
 
 
 def change_of(table, before, after):
@@ -155,12 +210,17 @@ def change_of(table, before, after):
     return text(2, b"".join(text(number, row(*cells)) for number, cells in sides))
 
 
-def message_of(table, k, changes):
-    """The group of number k, from 1: the first one has the table's columns before it."""
-    rows = b"".join(change_of(table, *it) for it in changes)
+def rows_of(table, name, changes):
+    return event(12, text(5, text(1, name.encode()) + b"".join(change_of(table, *it) for it in changes)))
+
+
+def message_of(shape, k, changes):
+    """The group of number k, from 1: the first one has the tables' columns before it."""
+    table, names = shape.table, names_of(shape)
+    of = [(name, changes[at :: len(names)]) for at, name in enumerate(names)] if shape.together else [(names[k % len(names)], changes)]
     position = b"MySQL56/" + U + (b":1" if k == 1 else b":1-%d" % k)
-    field = field_of(table) if k == 1 else b""
-    events = event(2) + field + event(12, text(5, text(1, b"t") + rows)) + event(1, text(3, position)) + event(3)
+    fields = [field_of(table, it) for it in names] if k == 1 else []
+    events = b"".join([event(2), *fields, *(rows_of(table, *it) for it in of), event(1, text(3, position)), event(3)])
     return varint(len(events)) + events
 
 
@@ -170,7 +230,7 @@ def count_of(shape, megabytes):
         return shape.rows // shape.streams
     some = list(itertools.islice(shape.changes(iter(range(50_000, 150_000)), random.Random(1)), 10_000))
     size = sum(len(change_of(shape.table, *it)) for it in some) / len(some)
-    groups = megabytes * 1_000_000 / shape.streams / (size * shape.group + len(message_of(shape.table, 10_000, [])))
+    groups = megabytes * 1_000_000 / shape.streams / (size * shape.group + len(message_of(shape, 10_000, [])))
     return max(1, int(groups)) * shape.group
 
 
@@ -211,7 +271,7 @@ def make(shape, megabytes):
         if not is_made(path):
             changes = itertools.islice(shape.changes(numbers_of(shape, stream, count), random.Random(stream)), count)
             groups = (list(itertools.islice(changes, shape.group)) for _ in range(count // shape.group))
-            put(path, (message_of(shape.table, k, it) for k, it in enumerate(groups, 1)))
+            put(path, (message_of(shape, k, it) for k, it in enumerate(groups, 1)))
 
 
 if __name__ == "__main__":
