@@ -91,6 +91,13 @@ def rounds(these: list[Edit]) -> list[list[Edit]]:
     return made
 
 
+def proof_at_fault(edit: Edit) -> re.Pattern[str]:
+    """A line by which the proof of the function that an edit names is at fault. Of calls in a cycle it stands in a folder of the cycle's name."""
+    folder, slash, name = edit.at.replace("::", "/").rpartition("/")
+    in_file = rf"(\./)?proofs/{re.escape(folder + slash)}({re.escape(name)}/.*error|\+\w+/.*error: `{re.escape(name)}-)"
+    return re.compile(rf"{in_file}|.*Rattle\.{edit.crate}\.proofs\.{re.escape(edit.at.replace('::', '.'))}\.")
+
+
 def faults(part: list[Edit], status: int | None, said: str) -> list[str]:
     """Why edits of a part aren't refused as wanted, by what the check of the crate with all of them said."""
     crate = part[0].crate
@@ -102,7 +109,7 @@ def faults(part: list[Edit], status: int | None, said: str) -> list[str]:
     told = []
     for edit in part:
         verdict = verdicts.get(f"{crate}::{edit.at}", "").partition("; it calls")[0]
-        own = re.compile(rf"(\./)?proofs/{re.escape(edit.at.replace('::', '/'))}/.*error|.*Rattle\.{crate}\.proofs\.{re.escape(edit.at.replace('::', '.'))}\.")
+        own = proof_at_fault(edit)
         if verdict == "proved":
             told.append(f"{crate}/{edit.name}: NOT REFUSED: {edit.at} is proved all the same")
         elif not verdict.startswith(("not proved", "no proof")):
