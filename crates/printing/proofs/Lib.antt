@@ -1,3 +1,4 @@
 pub mod DigitPairs
 mod DigitLanes
 pub mod PrintLaws
+pub mod SpellLaws

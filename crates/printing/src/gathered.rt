@@ -1,8 +1,9 @@
 //! Small pieces of text, written together.
 
-ghost use Rattle.std.specs.Prelude.{◌≡◌, ◌+◌, ◌*◌, ◌/◌, ◌%◌, ◌≤◌, List, [], ◌++◌, OnOk, length, map, slice_index};
+ghost use Rattle.std.specs.Prelude.{◌≡◌, ℕ, ◌+◌, ◌*◌, ◌/◌, ◌%◌, ◌≤◌, List, [], ◌++◌, OnOk, length, map, slice_index};
 ghost use Rattle.hex.specs.Hex.{encode_lower, lower_digits};
 ghost use Rattle.printing.specs.Printing.{Prints, Adds};
+ghost use Rattle.printing.specs.Private.Spelling.{IsSpelled};
 
 use crate::put::put_all;
 use crate::writer::{Out, OutFailed};
@@ -12,8 +13,14 @@ use std::simd::prelude::*;
 /// The most bytes that wait.
 const ROOM: usize = 4096;
 
-/// How many bytes are spelled at once.
+/// The most bytes whose digits can wait.
+const PART: usize = ROOM / 2;
+
+/// How many bytes are spelled side by side.
 const BLOCK: usize = 16;
+
+/// Half of them.
+const HALF: usize = 8;
 
 /// The digits in lower case.
 const DIGITS: [u8; 16] = *b"0123456789abcdef";
@@ -72,14 +79,34 @@ impl Gathered {
     pub fn put_hex<O: Out>(&mut self, out: &mut O, bytes: &[u8]) -> Result<(), OutFailed>
         ensures { Adds result (O.written out.old) self.old (O.written out.new) self.new (encode_lower bytes.now) }
     {
+        if bytes.len() > (ROOM - self.len) / 2 {
+            return self.put_hex_parts(out, bytes);
+        }
+        self.add_hex(bytes);
+        Ok(())
+    }
+
+    /// Adds the digits of bytes for which there may be no room, as many at once as can wait.
+    #[inline(never)]
+    fn put_hex_parts<O: Out>(&mut self, out: &mut O, bytes: &[u8]) -> Result<(), OutFailed>
+        ensures { Adds result (O.written out.old) self.old (O.written out.new) self.new (encode_lower bytes.now) }
+    {
         let mut rest = bytes;
-        while rest.len() >= BLOCK {
-            let (block, behind) = rest.split_at(BLOCK);
-            self.put(out, &digits_of(block))?;
+        while rest.len() > PART {
+            let (part, behind) = rest.split_at(PART);
+            self.put_hex_part(out, part)?;
             rest = behind;
         }
-        self.make_room(out, 2 * rest.len())?;
-        self.add_hex(rest);
+        self.put_hex_part(out, rest)
+    }
+
+    /// Adds the digits of some bytes, at most as many as can wait.
+    fn put_hex_part<O: Out>(&mut self, out: &mut O, part: &[u8]) -> Result<(), OutFailed>
+        requires { length part.now ≤ PART }
+        ensures { Adds result (O.written out.old) self.old (O.written out.new) self.new (encode_lower part.now) }
+    {
+        self.make_room(out, 2 * part.len())?;
+        self.add_hex(part);
         Ok(())
     }
 
@@ -119,6 +146,7 @@ impl Gathered {
     }
 
     /// Adds the digits of some bytes for which there is room.
+    #[inline(always)]
     fn add_hex(&mut self, piece: &[u8])
         requires { length self.old + 2 * length piece.now ≤ ROOM }
         ensures { self.new ≡ self.old ++ encode_lower piece.now }
@@ -163,7 +191,68 @@ fn low_digits(bytes: u8x16) -> u8x16
 }
 
 /// Writes the digits of some bytes over room for them.
+#[inline(always)]
 fn spell(piece: &[u8], room: &mut [u8])
+    requires { length room.old ≡ 2 * length piece.now }
+    ensures { room.new ≡ encode_lower piece.now }
+{
+    if piece.len() >= BLOCK {
+        spell_blocks(piece, room);
+    } else if piece.len() >= HALF {
+        spell_halves(piece, room);
+    } else {
+        spell_few(piece, room);
+    }
+}
+
+/// Writes the digits of at least a block of bytes over room for them. The last block may begin in the one before it.
+#[inline(always)]
+fn spell_blocks(piece: &[u8], room: &mut [u8])
+    requires some { BLOCK ≤ length piece.now }
+    requires room { length room.old ≡ 2 * length piece.now }
+    ensures { room.new ≡ encode_lower piece.now }
+{
+    let last = piece.len() - BLOCK;
+    let mut at = 0;
+    while at < last {
+        spell_block(piece, at, room);
+        at += BLOCK;
+    }
+    spell_block(piece, last, room);
+}
+
+/// Writes the digits of the block of bytes at a place, where those of the bytes before it stand, over room for all.
+#[inline(always)]
+fn spell_block(piece: &[u8], at: usize, room: &mut [u8])
+    requires within { at + BLOCK ≤ length piece.now }
+    requires room { length room.old ≡ 2 * length piece.now }
+    ensures same { length room.new ≡ length room.old }
+    ensures spelled { (n : ℕ) → at ≤ n → IsSpelled piece.now room.old n → IsSpelled piece.now room.new (at + BLOCK) }
+{
+    let digits = digits_of(&piece[at..at + BLOCK]);
+    room[2 * at..2 * at + 2 * BLOCK].copy_from_slice(&digits);
+}
+
+/// Writes the digits of half a block to a whole one of bytes over room for them: those of half a block at each end.
+#[inline(always)]
+fn spell_halves(piece: &[u8], room: &mut [u8])
+    requires some { HALF ≤ length piece.now }
+    requires most { length piece.now ≤ BLOCK }
+    requires room { length room.old ≡ 2 * length piece.now }
+    ensures { room.new ≡ encode_lower piece.now }
+{
+    let last = piece.len() - HALF;
+    let mut block = [0; BLOCK];
+    block[..HALF].copy_from_slice(&piece[..HALF]);
+    block[HALF..].copy_from_slice(&piece[last..]);
+    let digits = digits_of(&block);
+    room[..BLOCK].copy_from_slice(&digits[..BLOCK]);
+    room[2 * last..].copy_from_slice(&digits[BLOCK..]);
+}
+
+/// Writes the digits of some bytes over room for them, one byte after another.
+#[inline(always)]
+fn spell_few(piece: &[u8], room: &mut [u8])
     requires { length room.old ≡ 2 * length piece.now }
     ensures { room.new ≡ encode_lower piece.now }
 {

@@ -2,7 +2,7 @@ use Rattle.std.proofs.Common.{ℕ, ◌/◌, ◌%◌, ◌<◌, ◌∙◌, ap, ari
 use Rattle.hex.specs.Hex.{lower_digits}
 use Rattle.hex.proofs.Pairs.{encode_step, encode_done}
 use Rattle.printing.proofs.DigitPairs.{PAIRS-digits}
-use Rattle.printing.proofs.gathered.spell.Goals as goal
+use Rattle.printing.proofs.gathered.spell_few.Goals as goal
 
 pub loop-i-preserved : goal.loop-i-preserved
 loop-i-preserved c =

@@ -1,7 +1,7 @@
 use Rattle.std.proofs.Common.{length}
 use Rattle.hex.specs.Hex.{encode_lower}
 use Rattle.printing.specs.Private.Progress.{IsAddedTo}
-use Rattle.printing.proofs.gathered.Gathered.put_hex.Given as goal
+use Rattle.printing.proofs.gathered.Gathered.put_hex_parts.Given as goal
 
 -- the digits that are added and those that are left are the whole
 abbrev pub invariant-loop-rest : goal.invariant-loop-rest
