@@ -20,3 +20,4 @@ pub mod Scanning
 pub mod Applying
 pub mod Mixing
 pub mod Meetings
+pub mod Fronting

@@ -3,6 +3,7 @@ pub mod Contents
 pub mod Touches
 pub mod Refusals
 pub mod Places
+pub mod Fronts
 pub mod Pages
 pub mod Kept
 pub mod Clashes

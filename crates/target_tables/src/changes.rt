@@ -16,15 +16,16 @@ use crate::page::{FULL, HALF, Page};
 use crate::pages::Pages;
 use crate::runs::{begins_run, is_worth, page_with_places, share_page};
 use crate::spots::{Spot, behind, entry_at};
+use key_front::Fronted;
 
 /// An entry at this place is put behind all others.
-fn is_last<K, R>(pages: &[Page<K, R>], spot: Spot) -> bool {
+fn is_last<K: Fronted, R>(pages: &[Page<K, R>], spot: Spot) -> bool {
     spot.place == FULL && spot.page.wrapping_add(1) == pages.len()
 }
 
 /// A full page may be split at this place: an entry is put there that goes on a run of rising keys, or behind all
 /// others, and the pages that lie ready suffice for a page more and then for so many new keys, whichever they are.
-fn can_go_on<K, R>(pages: &Pages<K, R>, spot: Spot, runs: bool, left: usize) -> bool
+fn can_go_on<K: Fronted, R>(pages: &Pages<K, R>, spot: Spot, runs: bool, left: usize) -> bool
     ensures some { IsTrue result → 0 < spot.place }
     ensures spare { IsTrue result → 0 < pages.now.spares }
     ensures room { IsTrue result → (after : List (List (K × (ℕ × R)))) → AreFull after → length after ≡ length pages.now.pages + 1
@@ -41,7 +42,11 @@ fn can_go_on<K, R>(pages: &Pages<K, R>, spot: Spot, runs: bool, left: usize) -> 
 
 /// Puts an entry into a full page at its place, and tells the place behind it. What lies behind the place is moved
 /// into a page of its own; where nothing does, the entry is the first of a new page. Takes no memory.
-fn put_on<K: Drop, R: Drop>(pages: &mut Pages<K, R>, spot: Spot, entry: (K, (u8, R))) -> Spot
+fn put_on<K: Fronted + Drop, R: Drop>(
+    pages: &mut Pages<K, R>,
+    spot: Spot,
+    entry: (K, (u8, R)),
+) -> Spot
     requires inside { spot.page < length pages.old.pages }
     requires full { length (page_at pages.old.pages spot.page) ≡ 128 }
     requires some { 0 < spot.place }
@@ -64,7 +69,11 @@ fn put_on<K: Drop, R: Drop>(pages: &mut Pages<K, R>, spot: Spot, entry: (K, (u8,
 
 /// Puts an entry into a full page at its place, and tells the place behind it. The page is split in two of 64 first,
 /// and the entry goes into the second if its key is greater than the first's last. Takes no memory.
-fn put_in_half<K: Drop, R: Drop>(pages: &mut Pages<K, R>, spot: Spot, entry: (K, (u8, R))) -> Spot
+fn put_in_half<K: Fronted + Drop, R: Drop>(
+    pages: &mut Pages<K, R>,
+    spot: Spot,
+    entry: (K, (u8, R)),
+) -> Spot
     requires inside { spot.page < length pages.old.pages }
     requires full { length (page_at pages.old.pages spot.page) ≡ 128 }
     requires within { spot.place ≤ 128 }
@@ -87,7 +96,7 @@ fn put_in_half<K: Drop, R: Drop>(pages: &mut Pages<K, R>, spot: Spot, entry: (K,
 /// full page is split in halves first. But where the entry goes on a run of rising keys, or comes last of all, the page
 /// is split at its place, so that rising keys leave full pages behind, if the pages that lie ready suffice for that.
 /// Takes no memory.
-fn put_new<K: Drop, R: Drop>(
+fn put_new<K: Fronted + Drop, R: Drop>(
     pages: &mut Pages<K, R>,
     spot: Spot,
     entry: (K, (u8, R)),
@@ -116,7 +125,11 @@ fn put_new<K: Drop, R: Drop>(
 }
 
 /// Puts an entry behind all others, after which so many more may be put. Takes no memory.
-pub(crate) fn put_last<K: Drop, R: Drop>(pages: &mut Pages<K, R>, entry: (K, (u8, R)), left: usize)
+pub(crate) fn put_last<K: Fronted + Drop, R: Drop>(
+    pages: &mut Pages<K, R>,
+    entry: (K, (u8, R)),
+    left: usize,
+)
     requires { 1 ≤ room_of pages.old.pages pages.old.spares }
     ensures entries { entries_of pages.new.pages ≡ entries_of pages.old.pages ++ entry ∷ [] }
     ensures room { (n : ℕ) → n ≤ left → n + 1 ≤ room_of pages.old.pages pages.old.spares → n ≤ room_of pages.new.pages pages.new.spares }
@@ -141,7 +154,7 @@ struct Made<K, R> {
 
 /// Puts a stream's row at a key, with which a run of rising keys may go on, and after which so many new keys may come.
 /// Takes no memory.
-fn put<K: Ord + Drop, R: Drop>(
+fn put<K: Fronted + Drop, R: Drop>(
     pages: &mut Pages<K, R>,
     hint: Spot,
     stream: u8,
@@ -173,7 +186,7 @@ fn put<K: Ord + Drop, R: Drop>(
 }
 
 /// Takes a stream's row at a key away. Takes no memory.
-fn take_away<K: Ord + Drop, R: Drop>(
+fn take_away<K: Fronted + Drop, R: Drop>(
     pages: &mut Pages<K, R>,
     hint: Spot,
     stream: u8,
@@ -212,7 +225,7 @@ fn take_away<K: Ord + Drop, R: Drop>(
 
 /// Makes one change of a stream, with which a run of rising keys may go on, and after which so many may come. Takes no
 /// memory.
-fn make_change<K: Ord + Drop, R: Drop>(
+fn make_change<K: Fronted + Drop, R: Drop>(
     pages: &mut Pages<K, R>,
     hint: Spot,
     stream: u8,
@@ -236,7 +249,7 @@ fn make_change<K: Ord + Drop, R: Drop>(
 
 /// Makes the next of a stream's changes together with those behind it that fall into the same page, where that is
 /// worth it, and tells how many are left. Takes no memory.
-fn merge_next<K: Ord + Drop, R: Drop>(
+fn merge_next<K: Fronted + Drop, R: Drop>(
     pages: &mut Pages<K, R>,
     drift: &mut Drift,
     stream: u8,
@@ -293,7 +306,7 @@ fn hand_back<X>(list: &mut Vec<X>, entry: Option<X>)
 
 /// Makes the next of a stream's changes, and tells how many are left. Takes no memory. What it replaced or
 /// took away is put behind those that are left.
-fn change_next<K: Ord + Drop, R: Drop>(
+fn change_next<K: Fronted + Drop, R: Drop>(
     pages: &mut Pages<K, R>,
     drift: &mut Drift,
     stream: u8,
@@ -332,7 +345,7 @@ fn change_next<K: Ord + Drop, R: Drop>(
 /// A stream's changes, each at a key of its own, by rising key. Each is looked for where it was staged, as far as
 /// the changes before it tell where that is now; rows at new keys that fall into one page are put into it together.
 /// Takes no memory. What they replaced and took away is handed back, behind the changes that are left in the list.
-pub(crate) fn change_all<K: Ord + Drop, R: Drop>(
+pub(crate) fn change_all<K: Fronted + Drop, R: Drop>(
     pages: &mut Pages<K, R>,
     stream: u8,
     mut changes: Vec<(K, Option<R>)>,

@@ -8,18 +8,19 @@ ghost use Rattle.target_tables.specs.Kept.{IsFront};
 ghost use Rattle.target_tables.specs.Rising.{IsRising};
 
 use crate::scan::Scan;
+use key_front::Fronted;
 use std::cmp::Ordering;
 use std::marker::Model;
 
 /// The entries of a map from a place on, the first of which can be looked at. Seen in contracts as the list of
 /// these.
 #[derive(Drop)]
-struct Peeked<'t, K, R> {
+struct Peeked<'t, K: Fronted, R> {
     first: Option<(&'t K, u8, &'t R)>,
     later: Scan<'t, K, R>,
 }
 
-impl<'t, K, R> Model for Peeked<'t, K, R> {
+impl<'t, K: Fronted, R> Model for Peeked<'t, K, R> {
     ghost use Rattle.std.specs.Prelude.{ℕ, List};
     ghost use Rattle.std.specs.Option.{option_map};
     ghost use Rattle.target_tables.specs.Contents.{entry};
@@ -30,7 +31,7 @@ impl<'t, K, R> Model for Peeked<'t, K, R> {
     ghost view = { λ p. fetched (option_map entry p.first) p.later };
 }
 
-impl<'t, K, R> Peeked<'t, K, R> {
+impl<'t, K: Fronted, R> Peeked<'t, K, R> {
     /// These entries.
     fn new(mut later: Scan<'t, K, R>) -> Peeked<'t, K, R>
         ensures { result ≡ later.entry }
@@ -60,7 +61,7 @@ impl<'t, K, R> Peeked<'t, K, R> {
 }
 
 /// The least key that two maps' entries both have, with the stream of each row, behind which they are left.
-fn next_common<'t, K: Ord, R>(
+fn next_common<'t, K: Fronted, R>(
     one: &mut Peeked<'t, K, R>,
     other: &mut Peeked<'t, K, R>,
 ) -> Option<(&'t K, u8, u8)>
@@ -90,12 +91,12 @@ fn next_common<'t, K: Ord, R>(
 /// The keys at which two maps both have a row, which are still to come, by rising key, each with the stream of the
 /// first map's row and that of the second's. Seen in contracts as the list of these. Takes no memory.
 #[derive(Drop)]
-pub struct Common<'t, K: Ord, R> {
+pub struct Common<'t, K: Fronted, R> {
     one: Peeked<'t, K, R>,
     other: Peeked<'t, K, R>,
 }
 
-impl<'t, K: Ord, R> Model for Common<'t, K, R> {
+impl<'t, K: Fronted, R> Model for Common<'t, K, R> {
     ghost use Rattle.std.specs.Prelude.{ℕ, List};
     ghost use Rattle.target_tables.specs.Common.{common};
     ghost use Rattle.target_tables.specs.Rising.{IsRising};
@@ -107,7 +108,7 @@ impl<'t, K: Ord, R> Model for Common<'t, K, R> {
     ghost invariant = { λ c. IsRising K.cmp c.one × IsRising K.cmp c.other };
 }
 
-impl<'t, K: Ord, R> Common<'t, K, R> {
+impl<'t, K: Fronted, R> Common<'t, K, R> {
     /// The keys that these entries both have.
     pub(crate) fn new(one: Scan<'t, K, R>, other: Scan<'t, K, R>) -> Common<'t, K, R>
         requires rising { IsRising K.cmp one }

@@ -2,6 +2,7 @@
 
 use crate::page::Page;
 use crate::spots::Spot;
+use key_front::Fronted;
 
 /// What is known of how places moved since a group was staged. What it tells are hints: a change looks at
 /// the key that stands there.
@@ -52,7 +53,7 @@ impl Drift {
 
     /// Where a staged place may be now: as far behind the last change as it was, if it was in the same page, and
     /// past that page's end in the next one; else in its own page, which moved as pages were put in and taken out.
-    pub(crate) fn hint<K, R>(&self, pages: &[Page<K, R>], staged: Spot) -> Spot {
+    pub(crate) fn hint<K: Fronted, R>(&self, pages: &[Page<K, R>], staged: Spot) -> Spot {
         if staged.page != self.staged.page {
             return Spot {
                 page: staged

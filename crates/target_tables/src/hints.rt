@@ -7,10 +7,11 @@ ghost use Rattle.target_tables.specs.Pages.{entries_of, page_at, flat, AreFull, 
 use crate::page::Page;
 use crate::places::order;
 use crate::spots::{Spot, entry_at, is_past, spot_of};
+use key_front::Fronted;
 use std::cmp::Ordering;
 
 /// The entries of the pages behind this one have greater keys.
-fn ends_before<K: Ord, R>(pages: &[Page<K, R>], page: usize, key: &K) -> bool
+fn ends_before<K: Fronted, R>(pages: &[Page<K, R>], page: usize, key: &K) -> bool
     requires rising { IsRising K.cmp (entries_of pages.now) }
     requires full { AreFull pages.now }
     requires inside { page < length pages.now }
@@ -19,11 +20,11 @@ fn ends_before<K: Ord, R>(pages: &[Page<K, R>], page: usize, key: &K) -> bool
     if page + 1 >= pages.len() {
         return true;
     }
-    is_past(&pages[page + 1], key)
+    is_past(&pages[page + 1], key.front(), key)
 }
 
 /// The entries before this place have lesser keys. Before the first place of a later page that isn't looked at.
-fn begins_behind<K: Ord, R>(pages: &[Page<K, R>], spot: Spot, key: &K) -> bool
+fn begins_behind<K: Fronted, R>(pages: &[Page<K, R>], spot: Spot, key: &K) -> bool
     requires rising { IsRising K.cmp (entries_of pages.now) }
     requires inside { spot.page < length pages.now }
     requires within { spot.place ≤ length (page_at pages.now spot.page) }
@@ -42,7 +43,7 @@ fn begins_behind<K: Ord, R>(pages: &[Page<K, R>], spot: Spot, key: &K) -> bool
 
 /// The key stands at this place, or would stand there: told by the keys there and before it. None where
 /// it stands, or would stand, elsewhere.
-pub(crate) fn found_at<K: Ord, R>(
+pub(crate) fn found_at<K: Fronted, R>(
     pages: &[Page<K, R>],
     hint: Spot,
     key: &K,
@@ -77,7 +78,11 @@ pub(crate) fn found_at<K: Ord, R>(
 
 /// The place of the entry with the key, or else the place at which it would stand. The hint is looked at first;
 /// where the key isn't told by it, it is sought from the hint's page.
-pub(crate) fn spot_by<K: Ord, R>(pages: &[Page<K, R>], hint: Spot, key: &K) -> Result<Spot, Spot>
+pub(crate) fn spot_by<K: Fronted, R>(
+    pages: &[Page<K, R>],
+    hint: Spot,
+    key: &K,
+) -> Result<Spot, Spot>
     requires rising { IsRising K.cmp (entries_of pages.now) }
     requires full { AreFull pages.now }
     ensures { MatchResult result (λ spot. StandsAt K.cmp pages.now key.now spot.page spot.place) (λ spot. WouldStandAt K.cmp pages.now key.now spot.page spot.place) }

@@ -7,12 +7,13 @@ ghost use Rattle.target_tables.specs.Kept.{TakesLesser, AreMixed};
 use crate::merge_side::MergeSide;
 use crate::side_part::SidePart;
 use crate::tables::Tables;
+use key_front::Fronted;
 use std::alloc::Global;
 use std::cmp::Ordering;
 
 /// Takes out the lesser of the first entries of two maps; where their keys are equal that of the first, and
 /// drops the other.
-fn take_lesser<K: Ord + Drop, R: Drop>(
+fn take_lesser<K: Fronted + Drop, R: Drop>(
     one: &mut SidePart<K, R>,
     other: &mut SidePart<K, R>,
 ) -> Option<(K, (u8, R))>
@@ -35,7 +36,7 @@ fn take_lesser<K: Ord + Drop, R: Drop>(
 }
 
 /// All entries of two maps, so many at most, put into an empty one; of two at one key that of the first.
-fn mix<K: Ord + Drop, R: Drop>(
+fn mix<K: Fronted + Drop, R: Drop>(
     mixed: &mut Tables<K, R>,
     mut one: SidePart<'_, K, R>,
     mut other: SidePart<'_, K, R>,
@@ -56,7 +57,7 @@ fn mix<K: Ord + Drop, R: Drop>(
 /// One map of the rows of two: of each stream the rows of the map that its side names, and of a stream without a
 /// side those of the first; of two rows at one key the first map's. Rows are moved, in time linear in the rows of
 /// both. Where memory is wanted both maps are handed back.
-pub fn merge<K: Ord + Drop, R: Drop>(
+pub fn merge<K: Fronted + Drop, R: Drop>(
     alloc: Global,
     one: Tables<K, R>,
     other: Tables<K, R>,

@@ -4,9 +4,11 @@ ghost use Rattle.std.specs.Prelude.{◌≡◌, ℕ, ◌+◌, ◌<◌, ◌≤◌,
 ghost use Rattle.std.specs.List.{insert, remove};
 ghost use Rattle.std.specs.Vec.{vec_capacity};
 ghost use Rattle.std.specs.declared.cmp.Ordering.TheVariants.{Less};
+ghost use Rattle.target_tables.specs.Fronts.{first_front};
 ghost use Rattle.target_tables.specs.Rising.{AreBelow};
 
 use crate::places::order;
+use key_front::Fronted;
 use std::alloc::{AllocError, Global};
 use std::marker::Model;
 use std::mem::replace;
@@ -17,21 +19,25 @@ pub(crate) const FULL: usize = 128;
 /// How many entries the first of two pages has where a full one is split in halves.
 pub(crate) const HALF: usize = 64;
 
-/// Up to 128 entries of a map. Seen in contracts as their list. What it can have is reserved from the start.
+/// Up to 128 entries of a map. Seen in contracts as their list. What it can have is reserved from the start. The front
+/// of its first key lies in the page itself, so that pages are told apart without a look at their entries.
 #[derive(Drop)]
-pub(crate) struct Page<K, R> {
+pub(crate) struct Page<K: Fronted, R> {
+    /// 0 where there is no entry
+    front: u64,
     entries: Vec<(K, (u8, R))>,
 }
 
-impl<K, R> Model for Page<K, R> {
-    ghost use Rattle.std.specs.Prelude.{ℕ, List, ◌≤◌};
+impl<K: Fronted, R> Model for Page<K, R> {
+    ghost use Rattle.std.specs.Prelude.{◌≡◌, ℕ, List, ◌≤◌};
     ghost use Rattle.std.specs.Vec.{vec_capacity};
+    ghost use Rattle.target_tables.specs.Fronts.{first_front};
 
     ghost Value = { List (K × (ℕ × R)) };
 
     ghost view = { λ p. p.entries.items };
 
-    ghost invariant = { λ p. 128 ≤ vec_capacity p.entries };
+    ghost invariant = { λ p. (p.front ≡ first_front K.front_of p.entries.items) × (128 ≤ vec_capacity p.entries) };
 }
 
 /// Moves what stands from a place on behind no other ones, the other way round.
@@ -65,6 +71,16 @@ fn move_back<X>(lower: &mut Vec<X>, upper: &mut Vec<X>)
     }
 }
 
+/// Puts an item in at a place of a list that has room for it.
+fn put_between<X: Drop>(list: &mut Vec<X>, place: usize, item: X)
+    requires within { place ≤ vec_len list.old }
+    requires room { vec_len list.old < vec_capacity list.old }
+    ensures items { list.new.items ≡ insert list.old.items place item }
+    ensures capacity { vec_capacity list.old ≤ vec_capacity list.new }
+{
+    let _ = list.insert(place, item);
+}
+
 /// The last of the entries has a lesser key.
 fn ends_below<K: Ord, V>(entries: &[(K, V)], key: &K) -> bool
     ensures some { IsTrue result → 0 < length entries.now }
@@ -91,13 +107,30 @@ fn move_lesser<K: Ord, V>(lower: &mut Vec<(K, V)>, upper: &mut Vec<(K, V)>, key:
     }
 }
 
-impl<K, R> Page<K, R> {
+/// The front of the first entry's key, 0 where there is none.
+fn front_of<K: Fronted, V>(entries: &[(K, V)]) -> u64
+    ensures { result ≡ first_front K.front_of entries.now }
+{
+    match entries.first() {
+        Some(entry) => entry.0.front(),
+        None => 0,
+    }
+}
+
+impl<K: Fronted, R> Page<K, R> {
     /// No entry, and places for 128. An error is want of memory.
     pub(crate) fn new(alloc: Global) -> Result<Page<K, R>, AllocError>
         ensures { IfOk result (λ page. page ≡ []) }
     {
         let entries = Vec::with_capacity(alloc, FULL)?;
-        Ok(Page { entries })
+        Ok(Page { front: 0, entries })
+    }
+
+    /// The front of the first key, 0 where there is none. Takes no memory.
+    pub(crate) fn front(&self) -> u64
+        ensures { result ≡ first_front K.front_of self.now }
+    {
+        self.front
     }
 
     /// The entries. Takes no memory.
@@ -126,7 +159,11 @@ impl<K, R> Page<K, R> {
         requires { place < length self.old }
         ensures { self.new ≡ remove self.old place }
     {
-        self.entries.remove(place)
+        let entry = self.entries.remove(place);
+        if place == 0 {
+            self.front = front_of(&self.entries);
+        }
+        entry
     }
 
     /// Moves the entries from a place on into an empty page. Takes no memory.
@@ -139,6 +176,8 @@ impl<K, R> Page<K, R> {
     {
         move_upper(&mut self.entries, place, &mut upper.entries);
         upper.entries.reverse();
+        self.front = front_of(&self.entries);
+        upper.front = front_of(&upper.entries);
     }
 
     /// Moves the entries from a place on into an empty page, the other way round. Takes no memory.
@@ -150,6 +189,8 @@ impl<K, R> Page<K, R> {
         ensures above { reverse above.new ≡ drop place self.old }
     {
         move_upper(&mut self.entries, place, &mut above.entries);
+        self.front = front_of(&self.entries);
+        above.front = front_of(&above.entries);
     }
 
     /// Moves the entries of a page that is the other way round behind its own. Takes no memory.
@@ -159,6 +200,8 @@ impl<K, R> Page<K, R> {
         ensures above { above.new ≡ [] }
     {
         move_back(&mut self.entries, &mut above.entries);
+        self.front = front_of(&self.entries);
+        above.front = 0;
     }
 
     /// Puts an entry behind the others of a page that isn't full. Takes no memory.
@@ -167,10 +210,9 @@ impl<K, R> Page<K, R> {
         ensures { self.new ≡ self.old ++ entry ∷ [] }
     {
         self.entries.push_reserved(entry);
+        self.front = front_of(&self.entries);
     }
-}
 
-impl<K: Ord, R> Page<K, R> {
     /// Moves the entries with lesser keys of a page that is the other way round behind its own. Takes no memory.
     pub(crate) fn pass(&mut self, above: &mut Page<K, R>, key: &K)
         requires most { length self.old + length above.old ≤ 128 }
@@ -179,17 +221,22 @@ impl<K: Ord, R> Page<K, R> {
         ensures below { AreBelow K.cmp key.now self.old → AreBelow K.cmp key.now self.new }
     {
         move_lesser(&mut self.entries, &mut above.entries, key);
+        self.front = front_of(&self.entries);
+        above.front = front_of(&above.entries);
     }
 }
 
-impl<K: Drop, R: Drop> Page<K, R> {
+impl<K: Fronted + Drop, R: Drop> Page<K, R> {
     /// Puts an entry in at a place of a page that isn't full. Takes no memory.
     pub(crate) fn put_in(&mut self, place: usize, entry: (K, (u8, R)))
         requires within { place ≤ length self.old }
         requires room { length self.old < 128 }
         ensures { self.new ≡ insert self.old place entry }
     {
-        let _ = self.entries.insert(place, entry);
+        put_between(&mut self.entries, place, entry);
+        if place == 0 {
+            self.front = front_of(&self.entries);
+        }
     }
 
     /// Puts an entry over the one at a place, which is handed back. Takes no memory.
@@ -197,11 +244,15 @@ impl<K: Drop, R: Drop> Page<K, R> {
         requires { place < length self.old }
         ensures { self.new ≡ set self.old place entry }
     {
-        replace(&mut self.entries[place], entry)
+        let replaced = replace(&mut self.entries[place], entry);
+        if place == 0 {
+            self.front = front_of(&self.entries);
+        }
+        replaced
     }
 }
 
-impl<K: Clone, R: Clone> Page<K, R> {
+impl<K: Fronted + Clone, R: Clone> Page<K, R> {
     /// A copy with equal keys and rows. That a clone equals what it is made of is the caller's; an error is
     /// want of memory.
     pub(crate) fn try_clone(&self, alloc: Global) -> Result<Page<K, R>, AllocError>
@@ -213,6 +264,9 @@ impl<K: Clone, R: Clone> Page<K, R> {
         if entries.capacity() < FULL {
             entries.reserve(FULL - entries.len())?;
         }
-        Ok(Page { entries })
+        Ok(Page {
+            front: self.front,
+            entries,
+        })
     }
 }

@@ -13,6 +13,7 @@ ghost use Rattle.target_tables.specs.Touches.{new_keys};
 use crate::page::{HALF, Page};
 use crate::runs::{Run, put_run};
 use crate::spots::Spot;
+use key_front::Fronted;
 use std::alloc::{AllocError, Global};
 use std::marker::Model;
 
@@ -23,12 +24,12 @@ const MOST: usize = 1 << 56;
 /// all of them, so that none that moves from one list to the other takes memory. Seen in contracts as the
 /// pages' entries and the number of empty ones.
 #[derive(Drop)]
-pub(crate) struct Pages<K, R> {
+pub(crate) struct Pages<K: Fronted, R> {
     list: Vec<Page<K, R>>,
     spares: Vec<Page<K, R>>,
 }
 
-impl<K, R> Model for Pages<K, R> {
+impl<K: Fronted, R> Model for Pages<K, R> {
     ghost use Rattle.std.specs.Prelude.{◌+◌, vec_len};
     ghost use Rattle.std.specs.Vec.{vec_capacity};
     ghost use Rattle.target_tables.specs.Pages.{Book, book_code, AreKept};
@@ -60,7 +61,7 @@ pub(crate) fn spares_for(count: usize, pages: usize) -> usize
 }
 
 /// Empty pages are added until there are so many. Their places are there.
-fn fill<K: Drop, R: Drop>(
+fn fill<K: Fronted + Drop, R: Drop>(
     alloc: Global,
     spares: &mut Vec<Page<K, R>>,
     count: usize,
@@ -81,7 +82,7 @@ fn fill<K: Drop, R: Drop>(
     Ok(())
 }
 
-impl<K, R> Pages<K, R> {
+impl<K: Fronted, R> Pages<K, R> {
     /// No page. Takes no memory.
     pub(crate) fn new(alloc: Global) -> Pages<K, R>
         ensures pages { result.pages ≡ [] }
@@ -120,7 +121,7 @@ impl<K, R> Pages<K, R> {
     }
 }
 
-impl<K: Ord + Drop, R: Drop> Pages<K, R> {
+impl<K: Fronted + Drop, R: Drop> Pages<K, R> {
     /// Puts rows at rising new keys into one page, from a place on before which all keys are less, for as long as
     /// they belong there and the page isn't full. What lies behind the place is moved into an empty page, and back
     /// again behind the last of them. Takes no memory.
@@ -154,7 +155,7 @@ impl<K: Ord + Drop, R: Drop> Pages<K, R> {
     }
 }
 
-impl<K: Drop, R: Drop> Pages<K, R> {
+impl<K: Fronted + Drop, R: Drop> Pages<K, R> {
     /// Sees that so many empty pages lie ready. An error is want of memory; 2^56 pages are more than any has.
     pub(crate) fn reserve(&mut self, count: usize) -> Result<(), AllocError>
         ensures pages { self.new.pages ≡ self.old.pages }
@@ -276,7 +277,7 @@ impl<K: Drop, R: Drop> Pages<K, R> {
     }
 }
 
-impl<K: Clone + Drop, R: Clone + Drop> Pages<K, R> {
+impl<K: Fronted + Clone + Drop, R: Clone + Drop> Pages<K, R> {
     /// A copy with equal keys and rows in equal pages, and no empty ones. That a clone equals what it is made of
     /// is the caller's; an error is want of memory.
     pub(crate) fn try_clone(&self, alloc: Global) -> Result<Pages<K, R>, AllocError>
@@ -292,7 +293,7 @@ impl<K: Clone + Drop, R: Clone + Drop> Pages<K, R> {
 }
 
 /// A copy of pages.
-fn copy_all<K: Clone + Drop, R: Clone + Drop>(
+fn copy_all<K: Fronted + Clone + Drop, R: Clone + Drop>(
     alloc: Global,
     pages: &[Page<K, R>],
 ) -> Result<Vec<Page<K, R>>, AllocError>

@@ -11,6 +11,7 @@ use crate::hints::found_at;
 use crate::page::{FULL, Page};
 use crate::places::order;
 use crate::spots::{Spot, is_past};
+use key_front::Fronted;
 
 /// Changes that were put into one page.
 #[derive(Clone, Copy)]
@@ -27,7 +28,10 @@ pub(crate) fn share_page(spots: &[Spot], left: usize) -> bool {
 }
 
 /// A page that has places left.
-pub(crate) fn page_with_places<K, R>(pages: &[Page<K, R>], page: usize) -> Option<&Page<K, R>> {
+pub(crate) fn page_with_places<K: Fronted, R>(
+    pages: &[Page<K, R>],
+    page: usize,
+) -> Option<&Page<K, R>> {
     match pages.get(page) {
         Some(found) if found.len() < FULL => Some(found),
         _ => None,
@@ -36,7 +40,7 @@ pub(crate) fn page_with_places<K, R>(pages: &[Page<K, R>], page: usize) -> Optio
 
 /// Whether so many of the next changes were staged for one page that has places left that its entries behind the
 /// first of them are better moved twice than once for each.
-pub(crate) fn is_worth<K, R>(
+pub(crate) fn is_worth<K: Fronted, R>(
     pages: &[Page<K, R>],
     hint: Spot,
     spots: &[Spot],
@@ -53,7 +57,7 @@ pub(crate) fn is_worth<K, R>(
 
 /// Where the next change's row is put, if its key is new and stands at the hint's place: all entries before it have
 /// lesser keys than the changes that are left.
-pub(crate) fn begins_run<K: Ord, R>(
+pub(crate) fn begins_run<K: Fronted, R>(
     pages: &[Page<K, R>],
     hint: Spot,
     changes: &[(K, Option<R>)],
@@ -77,7 +81,7 @@ pub(crate) fn begins_run<K: Ord, R>(
 }
 
 /// The key is less than those of the entries that lie apart and of the later pages.
-fn fits<K: Ord, R>(list: &[Page<K, R>], page: usize, above: &Page<K, R>, key: &K) -> bool
+fn fits<K: Fronted, R>(list: &[Page<K, R>], page: usize, above: &Page<K, R>, key: &K) -> bool
     requires inside { page < length list.now }
     requires rising { IsRising K.cmp (reverse above.now ++ entries_of (drop (page + 1) list.now)) }
     ensures { IsTrue result → AreAbove K.cmp key.now (reverse above.now ++ entries_of (drop (page + 1) list.now)) }
@@ -89,12 +93,12 @@ fn fits<K: Ord, R>(list: &[Page<K, R>], page: usize, above: &Page<K, R>, key: &K
     if page + 1 >= list.len() {
         return true;
     }
-    is_past(&list[page + 1], key)
+    is_past(&list[page + 1], key.front(), key)
 }
 
 /// Puts the next change's row into the open page, and tells how many changes are left. None is put where the page
 /// is full or the change takes a row away, meets one, or belongs into a later page.
-fn put_next<K: Ord + Drop, R: Drop>(
+fn put_next<K: Fronted + Drop, R: Drop>(
     list: &mut [Page<K, R>],
     page: usize,
     above: &mut Page<K, R>,
@@ -124,7 +128,7 @@ fn put_next<K: Ord + Drop, R: Drop>(
 }
 
 /// Puts changes into the open page, by rising key, until one isn't put, and tells how many are left.
-pub(crate) fn put_run<K: Ord + Drop, R: Drop>(
+pub(crate) fn put_run<K: Fronted + Drop, R: Drop>(
     list: &mut [Page<K, R>],
     page: usize,
     above: &mut Page<K, R>,

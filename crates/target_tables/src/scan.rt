@@ -7,17 +7,18 @@ ghost use Rattle.target_tables.specs.Pages.{entries_of, page_at, flat, AreFull};
 
 use crate::page::Page;
 use crate::spots::Spot;
+use key_front::Fronted;
 use std::marker::Model;
 
 /// The entries of a map that are still to come, by rising key: each key with its stream and row.
 /// Seen in contracts as the list of these. Takes no memory.
 #[derive(Drop)]
-pub struct Scan<'t, K, R> {
+pub struct Scan<'t, K: Fronted, R> {
     entries: &'t [(K, (u8, R))],
     pages: &'t [Page<K, R>],
 }
 
-impl<'t, K, R> Model for Scan<'t, K, R> {
+impl<'t, K: Fronted, R> Model for Scan<'t, K, R> {
     ghost use Rattle.std.specs.Prelude.{ℕ, List, ◌++◌};
     ghost use Rattle.target_tables.specs.Pages.{entries_of, AreFull};
 
@@ -28,7 +29,7 @@ impl<'t, K, R> Model for Scan<'t, K, R> {
     ghost invariant = { λ s. AreFull s.pages.now };
 }
 
-impl<'t, K, R> Scan<'t, K, R> {
+impl<'t, K: Fronted, R> Scan<'t, K, R> {
     /// These entries, and behind them those of pages.
     fn new(entries: &'t [(K, (u8, R))], pages: &'t [Page<K, R>]) -> Scan<'t, K, R>
         requires { AreFull pages.now }
@@ -39,7 +40,7 @@ impl<'t, K, R> Scan<'t, K, R> {
 }
 
 /// The entries of pages from a place on.
-pub(crate) fn scan_from<'t, K, R>(pages: &'t [Page<K, R>], spot: Spot) -> Scan<'t, K, R>
+pub(crate) fn scan_from<'t, K: Fronted, R>(pages: &'t [Page<K, R>], spot: Spot) -> Scan<'t, K, R>
     requires full { AreFull pages.now }
     requires within { spot.place ≤ length (page_at pages.now spot.page) }
     ensures { result ≡ drop (flat pages.now spot.page spot.place) (entries_of pages.now) }
@@ -51,7 +52,7 @@ pub(crate) fn scan_from<'t, K, R>(pages: &'t [Page<K, R>], spot: Spot) -> Scan<'
     Scan::new(&pages[page].entries()[place..], &pages[page + 1..])
 }
 
-impl<'t, K, R> Iterator for Scan<'t, K, R> {
+impl<'t, K: Fronted, R> Iterator for Scan<'t, K, R> {
     type Item = (&'t K, u8, &'t R);
 
     ghost next_gives = { YieldsFirstBy entry (λ s. s) };

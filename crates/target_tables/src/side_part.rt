@@ -9,10 +9,11 @@ ghost use Rattle.target_tables.specs.Rising.{IsRising};
 use crate::merge_side::{MergeSide, comes_from};
 use crate::scan::Scan;
 use crate::taken::Taken;
+use key_front::Fronted;
 use std::marker::Model;
 
 /// How many of these entries are of streams that come from the side. Takes no memory.
-pub(crate) fn count_from<K, R>(
+pub(crate) fn count_from<K: Fronted, R>(
     mut rows: Scan<'_, K, R>,
     sides: &[MergeSide],
     side: MergeSide,
@@ -30,7 +31,7 @@ pub(crate) fn count_from<K, R>(
 }
 
 /// Takes entries out up to the first of a stream that comes from the side. The others are dropped.
-fn fetch<K: Drop, R: Drop>(
+fn fetch<K: Fronted + Drop, R: Drop>(
     later: &mut Taken<K, R>,
     sides: &[MergeSide],
     side: MergeSide,
@@ -48,14 +49,14 @@ fn fetch<K: Drop, R: Drop>(
 /// The entries of the streams that come from a side, which are still to be taken out, by rising key: each key with
 /// its stream and row. Seen in contracts as the list of these.
 #[derive(Drop)]
-pub(crate) struct SidePart<'m, K: Ord, R> {
+pub(crate) struct SidePart<'m, K: Fronted, R> {
     first: Option<(K, (u8, R))>,
     later: Taken<K, R>,
     sides: &'m [MergeSide],
     side: MergeSide,
 }
 
-impl<'m, K: Ord, R> Model for SidePart<'m, K, R> {
+impl<'m, K: Fronted, R> Model for SidePart<'m, K, R> {
     ghost use Rattle.std.specs.Prelude.{ℕ, List};
     ghost use Rattle.target_tables.specs.Kept.{fetched};
     ghost use Rattle.target_tables.specs.Merged.{comes_from, part_of};
@@ -68,7 +69,7 @@ impl<'m, K: Ord, R> Model for SidePart<'m, K, R> {
     ghost invariant = { λ l. IsRising K.cmp (fetched l.first (part_of (comes_from l.sides.now l.side) l.later)) };
 }
 
-impl<'m, K: Ord + Drop, R: Drop> SidePart<'m, K, R> {
+impl<'m, K: Fronted + Drop, R: Drop> SidePart<'m, K, R> {
     /// Of these entries those of the streams that come from the side. Takes no memory.
     pub(crate) fn new(
         mut later: Taken<K, R>,

@@ -6,6 +6,7 @@ ghost use Rattle.target_tables.specs.Pages.{entries_of, page_at, flat, begins_pa
 
 use crate::page::Page;
 use crate::places::{order, place_of};
+use key_front::Fronted;
 
 /// A place in a page.
 #[derive(Clone, Copy)]
@@ -40,10 +41,16 @@ pub(crate) fn next_to(found: Result<Spot, Spot>) -> Spot {
     }
 }
 
-/// The page's first key is greater than this one.
-pub(crate) fn is_past<K: Ord, R>(page: &Page<K, R>, key: &K) -> bool
+/// The page's first key is greater than this one, which has this front: told by the fronts, and where these are equal
+/// by the keys.
+pub(crate) fn is_past<K: Fronted, R>(page: &Page<K, R>, front: u64, key: &K) -> bool
+    requires { front ≡ K.front_of key.now }
     ensures { result ≡ begins_past K.cmp key.now page.now }
 {
+    let first = page.front();
+    if first != front {
+        return first > front;
+    }
     match page.entries().first() {
         Some(entry) => order(entry, key).is_gt(),
         None => false,
@@ -59,17 +66,18 @@ struct Span {
 
 /// The pages that a key can fall into, by a look at one page and the next: one alone where the key falls into
 /// it.
-fn span_near<K: Ord, R>(pages: &[Page<K, R>], near: usize, key: &K) -> Span
+fn span_near<K: Fronted, R>(pages: &[Page<K, R>], near: usize, front: u64, key: &K) -> Span
+    requires front { front ≡ K.front_of key.now }
     requires rising { IsRising K.cmp (entries_of pages.now) }
     requires full { AreFull pages.now }
     requires some { 0 < length pages.now }
     ensures { IsSpan K.cmp pages.now key.now result.low result.high }
 {
     let all = pages.len();
-    if near >= all || is_past(&pages[near], key) {
+    if near >= all || is_past(&pages[near], front, key) {
         return Span { low: 0, high: all };
     }
-    if near + 1 < all && is_past(&pages[near + 1], key) {
+    if near + 1 < all && is_past(&pages[near + 1], front, key) {
         return Span {
             low: near,
             high: near + 1,
@@ -83,16 +91,17 @@ fn span_near<K: Ord, R>(pages: &[Page<K, R>], near: usize, key: &K) -> Span
 
 /// The page that a key falls into: the last whose first key is at most it, else the first page. Found by
 /// halves, unless it is the page `near` or the last one, behind it.
-fn page_of<K: Ord, R>(pages: &[Page<K, R>], near: usize, key: &K) -> usize
+fn page_of<K: Fronted, R>(pages: &[Page<K, R>], near: usize, key: &K) -> usize
     requires rising { IsRising K.cmp (entries_of pages.now) }
     requires full { AreFull pages.now }
     requires some { 0 < length pages.now }
     ensures { FallsInto K.cmp pages.now key.now result }
 {
-    let Span { mut low, mut high } = span_near(pages, near, key);
+    let front = key.front();
+    let Span { mut low, mut high } = span_near(pages, near, front, key);
     while high - low > 1 {
         let middle = low + (high - low) / 2;
-        if is_past(&pages[middle], key) {
+        if is_past(&pages[middle], front, key) {
             high = middle;
         } else {
             low = middle;
@@ -103,7 +112,11 @@ fn page_of<K: Ord, R>(pages: &[Page<K, R>], near: usize, key: &K) -> usize
 
 /// The place of the entry with the key, or else the place at which it would stand. The page `near` is looked at
 /// first; the others are searched by halves, and so is the page.
-pub(crate) fn spot_of<K: Ord, R>(pages: &[Page<K, R>], near: usize, key: &K) -> Result<Spot, Spot>
+pub(crate) fn spot_of<K: Fronted, R>(
+    pages: &[Page<K, R>],
+    near: usize,
+    key: &K,
+) -> Result<Spot, Spot>
     requires rising { IsRising K.cmp (entries_of pages.now) }
     requires full { AreFull pages.now }
     ensures { MatchResult result (λ spot. StandsAt K.cmp pages.now key.now spot.page spot.place) (λ spot. WouldStandAt K.cmp pages.now key.now spot.page spot.place) }
@@ -119,7 +132,7 @@ pub(crate) fn spot_of<K: Ord, R>(pages: &[Page<K, R>], near: usize, key: &K) -> 
 }
 
 /// The entry at a place. That it is there is the caller's.
-pub(crate) fn entry_at<'t, K, R>(pages: &'t [Page<K, R>], spot: Spot) -> &'t (K, (u8, R))
+pub(crate) fn entry_at<'t, K: Fronted, R>(pages: &'t [Page<K, R>], spot: Spot) -> &'t (K, (u8, R))
     requires inside { spot.page < length pages.now }
     requires within { spot.place < length (page_at pages.now spot.page) }
     ensures { result.now ≡ get_or (entries_of pages.now) (flat pages.now spot.page spot.place) result.now }

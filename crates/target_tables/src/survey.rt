@@ -12,6 +12,7 @@ ghost use Rattle.target_tables.specs.Touches.{new_keys};
 use crate::hints::spot_by;
 use crate::page::Page;
 use crate::spots::{Spot, entry_at, next_to, spot_in};
+use key_front::Fronted;
 
 /// What a change meets.
 #[derive(Clone, Copy)]
@@ -42,7 +43,12 @@ struct Met {
 }
 
 /// What a change meets. The place that the hint names is looked at first.
-fn judge<K: Ord, R>(pages: &[Page<K, R>], hint: Spot, stream: u8, change: &(K, Option<R>)) -> Met
+fn judge<K: Fronted, R>(
+    pages: &[Page<K, R>],
+    hint: Spot,
+    stream: u8,
+    change: &(K, Option<R>),
+) -> Met
     requires rising { IsRising K.cmp (entries_of pages.now) }
     requires full { AreFull pages.now }
     ensures { result.verdict ≡ verdict_of stream change.now.1 (value_at K.cmp (entries_of pages.now) change.now.0) }
@@ -79,7 +85,7 @@ fn judge<K: Ord, R>(pages: &[Page<K, R>], hint: Spot, stream: u8, change: &(K, O
 
 /// How many changes put a row at a new key, or the last change that a row of another stream is in
 /// the way of. Looks each key up once, and tells the places that it found, that of the last change first.
-pub(crate) fn survey<K: Ord, R>(
+pub(crate) fn survey<K: Fronted, R>(
     pages: &[Page<K, R>],
     stream: u8,
     changes: &[(K, Option<R>)],

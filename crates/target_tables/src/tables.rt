@@ -26,6 +26,7 @@ use crate::staged::Staged;
 use crate::survey::survey;
 use crate::taken::Taken;
 use crate::touched::Touched;
+use key_front::Fronted;
 use std::alloc::{AllocError, Global};
 use std::marker::Model;
 
@@ -36,11 +37,11 @@ const FOR_RUNS: usize = 16;
 /// their order. They lie in pages of 1 to 128 entries. Seen in contracts as the list of entries by rising
 /// key, how many of them each page has, and how many new keys can be put in without taking memory.
 #[derive(Drop)]
-pub struct Tables<K: Ord, R> {
+pub struct Tables<K: Fronted, R> {
     pages: Pages<K, R>,
 }
 
-impl<K: Ord, R> Model for Tables<K, R> {
+impl<K: Fronted, R> Model for Tables<K, R> {
     ghost use Rattle.std.specs.Prelude.{length, map};
     ghost use Rattle.target_tables.specs.Contents.{Contents, contents_code};
     ghost use Rattle.target_tables.specs.Pages.{entries_of, room_of};
@@ -56,7 +57,7 @@ impl<K: Ord, R> Model for Tables<K, R> {
 }
 
 /// How many entries pages have.
-fn count<K, R>(pages: &[Page<K, R>]) -> usize
+fn count<K: Fronted, R>(pages: &[Page<K, R>]) -> usize
     requires full { AreFull pages.now }
     requires few { length pages.now ≤ 2 ^ 56 }
     ensures { result ≡ length (entries_of pages.now) }
@@ -69,14 +70,14 @@ fn count<K, R>(pages: &[Page<K, R>]) -> usize
 }
 
 /// Pages have no entry.
-fn is_none<K, R>(pages: &[Page<K, R>]) -> bool
+fn is_none<K: Fronted, R>(pages: &[Page<K, R>]) -> bool
     requires { AreFull pages.now }
     ensures { result ≡ (length (entries_of pages.now) == 0) }
 {
     pages.is_empty()
 }
 
-impl<K: Ord, R> Tables<K, R> {
+impl<K: Fronted, R> Tables<K, R> {
     /// An empty map. Takes no memory.
     pub fn new(alloc: Global) -> Tables<K, R>
         ensures { result.entries ≡ [] }
@@ -188,7 +189,7 @@ impl<K: Ord, R> Tables<K, R> {
     }
 }
 
-impl<K: Ord + Drop, R: Drop> Tables<K, R> {
+impl<K: Fronted + Drop, R: Drop> Tables<K, R> {
     /// Stages a stream's touches, of which the last of each key counts: a key is touched with a row,
     /// or with nothing. Takes all memory that `commit` will need, and leaves the entries as they
     /// are; what was staged before can still be committed.
@@ -352,7 +353,7 @@ impl<K: Ord + Drop, R: Drop> Tables<K, R> {
     }
 }
 
-impl<K: Ord + Clone + Drop, R: Clone + Drop> Tables<K, R> {
+impl<K: Fronted + Clone + Drop, R: Clone + Drop> Tables<K, R> {
     /// A copy of the map, which holds equal keys and rows. Takes memory for the copy alone. That a
     /// clone of a key or of a row equals it is the caller's; it is a fact of their types.
     pub fn try_clone(&self, alloc: Global) -> Result<Tables<K, R>, AllocError>

@@ -4,18 +4,19 @@ ghost use Rattle.std.specs.Prelude.{◌≡◌, [], ◌∷◌, MatchOption};
 ghost use Rattle.target_tables.specs.Pages.{entries_of, AreFull};
 
 use crate::page::Page;
+use key_front::Fronted;
 use std::alloc::Global;
 use std::collections::VecDeque;
 use std::marker::Model;
 
 /// Entries that are still to be taken out of pages, in their order. Seen in contracts as the list of these.
 #[derive(Drop)]
-pub(crate) struct Taken<K, R> {
+pub(crate) struct Taken<K: Fronted, R> {
     entries: VecDeque<(K, (u8, R))>,
     pages: VecDeque<Page<K, R>>,
 }
 
-impl<K, R> Model for Taken<K, R> {
+impl<K: Fronted, R> Model for Taken<K, R> {
     ghost use Rattle.std.specs.Prelude.{ℕ, List, ◌++◌};
     ghost use Rattle.target_tables.specs.Pages.{entries_of, AreFull};
 
@@ -33,7 +34,7 @@ fn take_first<X>(list: &mut VecDeque<X>) -> Option<X>
     list.pop_front()
 }
 
-impl<K: Drop, R: Drop> Taken<K, R> {
+impl<K: Fronted + Drop, R: Drop> Taken<K, R> {
     /// The entries of pages. Takes no memory.
     pub(crate) fn new(alloc: Global, pages: Vec<Page<K, R>>) -> Taken<K, R>
         requires { AreFull pages.items }
