@@ -1,5 +1,5 @@
 -- What is true of a message that is a row.
-use Rattle.std.proofs.Common.{◌≡◌, ℕ, ◌≤◌, List, length, Option, Result, Ok, Err, refl}
+use Rattle.std.proofs.Common.{◌≡◌, ℕ, ◌^◌, ◌≤◌, List, length, Option, Result, Ok, Err, refl}
 use Rattle.std.specs.Prelude.{IsOk}
 use Rattle.row_view.specs.declared.fault.RowFault.{RowFault}
 use Rattle.row_view.specs.RowFields.{row_lengths, row_values}
@@ -9,6 +9,9 @@ use Rattle.row_view.proofs.RowLaws.{row, row_of_message-row, none_from_IsWhole}
 
 good_is_row : (bytes : List ℕ) → IsGood bytes → IsRow bytes (columns_in bytes)
 good_is_row bytes good = (row bytes (columns_in bytes)).0 good
+
+pub good_short : (bytes : List ℕ) → IsGood bytes → length bytes ≤ 2 ^ 24
+good_short bytes good = (good_is_row bytes good).size
 
 pub good_few : (bytes : List ℕ) → IsGood bytes → length (row_lengths bytes) ≤ 256
 good_few bytes good = (good_is_row bytes good).few

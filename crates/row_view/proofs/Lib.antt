@@ -9,6 +9,7 @@ pub mod PairLaws
 pub mod MarkLaws
 pub mod FilledLaws
 pub mod WrittenLaws
+pub mod SpelledLaws
 pub mod PickLaws
 pub mod SizeLaws
 pub mod LimitLaws

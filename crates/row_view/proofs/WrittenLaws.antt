@@ -57,7 +57,7 @@ columns_back (Some value ∷ cs) =
 
 -- ---- what the two fields hold
 
-abbrev both : List ℕ → List ℕ → List WireField
+abbrev pub both : List ℕ → List ℕ → List WireField
 both packed values = text_field 1 packed ++ text_field 2 values
 
 fault_none : (packed values : List ℕ) → (varints_of packed).fault ≡ None → fault_of (record { items = both packed values; fault = None }) ≡ None
@@ -66,13 +66,13 @@ fault_none [] (v ∷ vs) e = refl
 fault_none (p ∷ ps) [] e = rw e refl
 fault_none (p ∷ ps) (v ∷ vs) e = rw e refl
 
-lengths_held : (packed values : List ℕ) (numbers : List ℕ) → varints_of [] ≡ record { items = []; fault = None } → varints_of packed ≡ record { items = numbers; fault = None } → lengths_of (both packed values) ≡ map unzigzag_of numbers
+pub lengths_held : (packed values : List ℕ) (numbers : List ℕ) → varints_of [] ≡ record { items = []; fault = None } → varints_of packed ≡ record { items = numbers; fault = None } → lengths_of (both packed values) ≡ map unzigzag_of numbers
 lengths_held [] [] numbers nil e = ap (λ (r : Reading ℕ WireFault). map unzigzag_of r.items) (sym nil ∙ e)
 lengths_held [] (v ∷ vs) numbers nil e = ap (λ (r : Reading ℕ WireFault). map unzigzag_of r.items) (sym nil ∙ e)
 lengths_held (p ∷ ps) [] numbers nil e = rw e (append-nil (map unzigzag_of numbers))
 lengths_held (p ∷ ps) (v ∷ vs) numbers nil e = rw e (append-nil (map unzigzag_of numbers))
 
-values_held : (packed values : List ℕ) → last_of [] (filter_map (part_in 2) (both packed values)) ≡ values
+pub values_held : (packed values : List ℕ) → last_of [] (filter_map (part_in 2) (both packed values)) ≡ values
 values_held [] [] = refl
 values_held [] (v ∷ vs) = refl
 values_held (p ∷ ps) [] = refl
@@ -102,7 +102,7 @@ parts_within packed values short =
     let whole : length (written_fields (both packed values)) ≡ length (written_fields (text_field 1 packed)) + length (written_fields (text_field 2 values)) = ap length (flat_map-append written_field (text_field 1 packed) (text_field 2 values)) ∙ length-append (written_fields (text_field 1 packed)) (written_fields (text_field 2 values)) in
     (omega (arith, whole, text_within 1 packed, short), omega (arith, whole, text_within 2 values, short))
 
-fields_writable : (packed values : List ℕ) → length packed ≤ 2 ^ 24 → length values ≤ 2 ^ 24 → AllByRecursion IsWritable (both packed values)
+pub fields_writable : (packed values : List ℕ) → length packed ≤ 2 ^ 24 → length values ≤ 2 ^ 24 → AllByRecursion IsWritable (both packed values)
 fields_writable packed values p v = all_both (text_field 1 packed) (text_field 2 values) (text_writable 1 packed (omega arith) (omega arith) (omega arith)) (text_writable 2 values (omega arith) (omega arith) (omega arith))
 
 -- ---- numbers can be read
@@ -148,7 +148,7 @@ packed_row_again fields numbers columns few short =
     let values_are : row_values bytes ≡ values = ap (λ (r : Reading WireField WireFault). last_of [] (filter_map (part_in 2) r.items)) read ∙ values_held packed values in
     not_broken bytes short None whole refl ∙ ap (λ (v : List ℕ). row_with v (row_lengths bytes)) values_are ∙ ap (λ (ns : List ℤ). row_with values ns) lengths_are ∙ with_all columns few
 
-packed_lengths : (columns : List (Option (List ℕ))) → is_plain columns ≡ false → length_fields columns ≡ text_field 1 (written_lengths columns)
+pub packed_lengths : (columns : List (Option (List ℕ))) → is_plain columns ≡ false → length_fields columns ≡ text_field 1 (written_lengths columns)
 unfolding length_fields
 packed_lengths columns e = rw e refl
 

@@ -3,3 +3,4 @@ pub mod Marks
 pub mod Counted
 pub mod Kept
 pub mod Sizes
+pub mod Spelled

@@ -12,6 +12,7 @@ mod row;
 mod row_buf;
 mod row_bytes;
 mod same;
+mod spelled;
 mod steps;
 mod written_columns;
 mod written_laws;

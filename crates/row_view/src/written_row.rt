@@ -12,6 +12,7 @@ ghost use Rattle.row_view.specs.WrittenRow.{length_of, length_number, value_byte
 use crate::column::Column;
 use crate::found::{LENGTHS, VALUES};
 use crate::row::{ROW_BYTES, RowView};
+use crate::spelled::spelled;
 use crate::written_laws::rows_are_read_again;
 use proto_wire::{
     cut_after_error, put_text_head, put_varint, size_of_both, text_field_size, varint_size, zigzag,
@@ -159,12 +160,13 @@ fn put_values(out: &mut Vec<u8>, row: &RowView<'_>) -> Result<(), AllocError>
     Ok(())
 }
 
-/// Appends a row.
-fn append_row(out: &mut Vec<u8>, row: &RowView<'_>) -> Result<(), AllocError>
+/// Appends a row whose parts have these sizes.
+fn append_row(out: &mut Vec<u8>, row: &RowView<'_>, size: RowSize) -> Result<(), AllocError>
+    requires lengths { size.lengths ≡ length (written_lengths row.now) }
+    requires values { size.values ≡ length (written_values row.now) }
     ensures written { OnOk result (out.new.items ≡ out.old.items ++ written_row row.now) }
     ensures kept { Begins out.old.items out.new.items }
 {
-    let size = size_of_parts(row)?;
     size.put_head(out, row.len())?;
     put_lengths(out, row)?;
     put_text_head(out, VALUES, size.values)?;
@@ -176,6 +178,9 @@ fn append_row(out: &mut Vec<u8>, row: &RowView<'_>) -> Result<(), AllocError>
 pub fn row_size(row: &RowView<'_>) -> Result<usize, AllocError>
     ensures { IfOk result (λ size. size ≡ length (written_row row.now)) }
 {
+    if let Some(bytes) = spelled(row) {
+        return Ok(bytes.len());
+    }
     size_of_parts(row)?.row(row.len())
 }
 
@@ -188,8 +193,12 @@ pub fn write_row(out: &mut Vec<u8>, row: &RowView<'_>) -> Result<(), AllocError>
     ensures read_again { RowsAreReadAgain }
 {
     rows_are_read_again();
-    out.reserve(row_size(row)?)?;
+    if let Some(bytes) = spelled(row) {
+        return out.extend_from_slice(bytes);
+    }
+    let size = size_of_parts(row)?;
+    out.reserve(size.row(row.len())?)?;
     let before = out.len();
-    let outcome = append_row(out, row);
+    let outcome = append_row(out, row, size);
     cut_after_error(out, before, outcome)
 }
