@@ -1,19 +1,18 @@
 -- A row that was read is within the limits as it is written, and so are some of its columns, none of them twice.
-use Rattle.std.proofs.Common.{◌≡◌, ℕ, zero, suc, ℤ, pos, negsuc, ◌+◌, ◌-◌, ◌*◌, ◌^◌, ◌<◌, ◌≤◌, inl, inr, Bool, true, false, ltb, List, [], ◌∷◌, ◌++◌, map, length, take, drop, Option, Some, None, Result, Ok, refl, sym, ap, subst, ◌∙◌, length-append, arith}
+use Rattle.std.proofs.Common.{◌≡◌, ℕ, zero, suc, ℤ, pos, negsuc, ◌+◌, ◌-◌, ◌*◌, ◌^◌, ◌<◌, ◌≤◌, inl, inr, Bool, true, false, ltb, List, [], ◌∷◌, ◌++◌, map, length, take, drop, Option, Some, None, refl, sym, ap, subst, ◌∙◌, length-append, arith}
 use Rattle.std.specs.Prelude.{slice_get, slice_index_or}
 use Rattle.std.specs.List.{AllByRecursion}
 use Rattle.std.proofs.lemmas.Bool.{cases_lt, lt-ltb}
-use Rattle.std.proofs.lemmas.List.{length-map, length-take, length-drop}
+use Rattle.std.proofs.lemmas.List.{length-take, length-drop}
 use Rattle.proto_wire.specs.Varint.{AreBytes, shortest}
 use Rattle.std.proofs.lemmas.List.Concat.{flat_map-append}
 use Rattle.proto_wire.specs.Writing.{written_field, written_fields, text_field}
-use Rattle.proto_wire.specs.Zigzag.{zigzag_of}
 use Rattle.row_view.specs.RowFields.{row_lengths, row_values}
-use Rattle.row_view.specs.Row.{RowValue, IsRow, size_of, size_of_all, columns_over, row_of_message}
+use Rattle.row_view.specs.Row.{RowValue, size_of_all, columns_over}
 use Rattle.row_view.specs.Picked.{picked, ArePlaces, AreApart}
-use Rattle.row_view.specs.WrittenRow.{length_of, length_number, value_bytes, written_lengths, written_values, packed_fields, is_plain, length_fields, written_row, IsWithinLimits, RowsAreWithinLimits, PickedAreWithinLimits}
+use Rattle.row_view.specs.WrittenRow.{length_number, value_bytes, written_lengths, written_values, packed_fields, is_plain, length_fields, written_row, IsWithinLimits, RowsAreWithinLimits, PickedAreWithinLimits}
 use Rattle.row_view.proofs.ColumnLaws.{columns_over-only}
-use Rattle.row_view.proofs.SizeLaws.{size, size_one, size_some, size_more, numbers_size, text_size, text_more, text_least, lengths_size, lengths_more, lengths_packed, message_least}
+use Rattle.row_view.proofs.SizeLaws.{size, size_one, size_some, size_more, numbers_size, text_size, text_more, text_least, lengths_size, lengths_more, message_least}
 use Rattle.row_view.proofs.WrittenLaws.{not_one, is_one, head_plain, head_packed, one_byte, row_length}
 
 -- ---- the size of a row as it is written

@@ -7,7 +7,7 @@ ghost use Rattle.row_view.specs.Private.Kept.{IsGood};
 ghost use Rattle.row_view.specs.Private.Spelled.{AreShort, IsTextOf};
 ghost use Rattle.row_view.specs.WrittenRow.{written_row};
 
-use crate::row::RowView;
+use crate::row_bytes::RowBytes;
 use proto_wire::{fields_are_read_again, numbers_are_read_again};
 
 /// The tag of the lengths, packed.
@@ -87,10 +87,10 @@ fn is_spelled(message: &[u8]) -> bool
 }
 
 /// The bytes of a row, if they are just what it is written as. Walks no column and takes no memory.
-pub(crate) fn spelled<'b>(row: &RowView<'b>) -> Option<&'b [u8]>
+pub(crate) fn spelled<'b>(row: &RowBytes<'b>) -> Option<&'b [u8]>
     ensures { IfSome result (λ bytes. bytes.now ≡ written_row row.now) }
 {
-    let message = row.bytes().message();
+    let message = row.message();
     if is_spelled(message) {
         return Some(message);
     }

@@ -12,6 +12,7 @@ ghost use Rattle.row_view.specs.WrittenRow.{length_of, length_number, value_byte
 use crate::column::Column;
 use crate::found::{LENGTHS, VALUES};
 use crate::row::{ROW_BYTES, RowView};
+use crate::row_bytes::RowBytes;
 use crate::spelled::spelled;
 use crate::written_laws::rows_are_read_again;
 use proto_wire::{
@@ -178,7 +179,7 @@ fn append_row(out: &mut Vec<u8>, row: &RowView<'_>, size: RowSize) -> Result<(),
 pub fn row_size(row: &RowView<'_>) -> Result<usize, AllocError>
     ensures { IfOk result (λ size. size ≡ length (written_row row.now)) }
 {
-    if let Some(bytes) = spelled(row) {
+    if let Some(bytes) = spelled(&row.bytes()) {
         return Ok(bytes.len());
     }
     size_of_parts(row)?.row(row.len())
@@ -193,7 +194,7 @@ pub fn write_row(out: &mut Vec<u8>, row: &RowView<'_>) -> Result<(), AllocError>
     ensures read_again { RowsAreReadAgain }
 {
     rows_are_read_again();
-    if let Some(bytes) = spelled(row) {
+    if let Some(bytes) = spelled(&row.bytes()) {
         return out.extend_from_slice(bytes);
     }
     let size = size_of_parts(row)?;
@@ -201,4 +202,28 @@ pub fn write_row(out: &mut Vec<u8>, row: &RowView<'_>) -> Result<(), AllocError>
     let before = out.len();
     let outcome = append_row(out, row, size);
     cut_after_error(out, before, outcome)
+}
+
+impl<'b> RowBytes<'b> {
+    /// How many bytes the row has as it is written. Of bytes that are just what it is written as no column is looked
+    /// at. An error is want of memory, since no memory has as many.
+    pub fn written_size(&self) -> Result<usize, AllocError>
+        ensures { IfOk result (λ size. size ≡ length (written_row self.now)) }
+    {
+        if let Some(bytes) = spelled(self) {
+            return Ok(bytes.len());
+        }
+        row_size(&self.view())
+    }
+
+    /// Appends the row as `write_row` does. Bytes that are just what it is written as are copied.
+    pub fn write(&self, out: &mut Vec<u8>) -> Result<(), AllocError>
+        ensures written { OnOk result (out.new.items ≡ out.old.items ++ written_row self.now) }
+        ensures unchanged { OnErr result (out.new.items ≡ out.old.items) }
+    {
+        if let Some(bytes) = spelled(self) {
+            return out.extend_from_slice(bytes);
+        }
+        write_row(out, &self.view())
+    }
 }

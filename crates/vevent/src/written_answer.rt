@@ -15,7 +15,7 @@ use crate::written_laws::answers_are_read_again;
 use proto_wire::{
     bytes_field_size, cut_after_error, put_bytes_head, put_text, size_of_both, text_field_size,
 };
-use row_view::{RowBytes, RowView, row_size, write_row};
+use row_view::{RowBytes, RowView};
 use std::alloc::AllocError;
 
 /// What an answer is to say that is written.
@@ -69,7 +69,7 @@ fn rows_size(rows: &[RowBytes<'_>]) -> Result<usize, AllocError>
 {
     let mut size = 0;
     for row in rows {
-        let one = bytes_field_size(4, row_size(&row.view())?)?;
+        let one = bytes_field_size(4, row.written_size()?)?;
         size = size_of_both(size, one)?;
     }
     Ok(size)
@@ -81,9 +81,8 @@ fn put_rows(out: &mut Vec<u8>, rows: &[RowBytes<'_>]) -> Result<(), AllocError>
     ensures kept { Begins out.old.items out.new.items }
 {
     for row in rows {
-        let row = row.view();
-        put_bytes_head(out, 4, row_size(&row)?)?;
-        write_row(out, &row)?;
+        put_bytes_head(out, 4, row.written_size()?)?;
+        row.write(out)?;
     }
     Ok(())
 }

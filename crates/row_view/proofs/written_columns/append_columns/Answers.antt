@@ -2,7 +2,7 @@ use Rattle.std.proofs.Common.{map, sym}
 use Rattle.std.proofs.lemmas.List.{length-map}
 use Rattle.row_view.specs.ColumnValue.{column_value}
 use Rattle.row_view.proofs.WrittenLaws.{row_written}
-use Rattle.row_view.specs.WrittenRow.{written_lengths, written_values}
+use Rattle.row_view.specs.WrittenRow.{written_values}
 use Rattle.row_view.proofs.written_columns.append_columns.Goals as goal
 
 pub returns-clause-written : goal.returns-clause-written

@@ -2,7 +2,7 @@ use Rattle.std.proofs.Common.{sym}
 use Rattle.row_view.specs.Picked.{picked}
 use Rattle.row_view.proofs.PickLaws.{length-picked}
 use Rattle.row_view.proofs.WrittenLaws.{row_written}
-use Rattle.row_view.specs.WrittenRow.{written_lengths, written_values}
+use Rattle.row_view.specs.WrittenRow.{written_values}
 use Rattle.row_view.proofs.written_picked.append_picked.Goals as goal
 
 pub returns : goal.returns

@@ -11,15 +11,14 @@ loop-row-preserved c =
     let old = c.args.out.now.items in
     let out = c.loop-row.out.items in
     let mid = c.put_bytes_head.new.out.items in
-    let new = c.write_row.new.out.items in
+    let new = c.write.new.out.items in
     let i = c.loop-row.row-index in
-    let message = written_row c.view-row.result in
+    let message = written_row c.row-item.result in
     let rest = message_fields 4 (map written_row (drop (i + 1) c.args.rows.now)) in
     let is = at_item (λ xs. out ++ written_fields (message_fields 4 (map written_row xs))) c.args.rows.now i c.row-item.result c.loop-row-test.true c.row-item.is ∙ c.loop-row.invariant.0 in
-    let is = ap (λ r. out ++ written_fields (message_field 4 (written_row r) ∷ rest)) c.view-row.ensures ∙ is in
-    let head = c.in_ok-put_bytes_head.ensures.written message (sym c.in_ok-row_size.ensures) in
+    let head = c.in_ok-put_bytes_head.ensures.written message (sym c.in_ok-written_size.ensures) in
     let kept = begins_behind old out mid c.loop-row.invariant.1 c.put_bytes_head.ensures.kept in
-    (message_then _ out mid new message 4 rest is head c.in_ok-write_row.ensures.written, begins_behind old mid new kept (record { more = message; is = c.in_ok-write_row.ensures.written }))
+    (message_then _ out mid new message 4 rest is head c.in_ok-write.ensures.written, begins_behind old mid new kept (record { more = message; is = c.in_ok-write.ensures.written }))
 
 pub returns-clause-written : goal.returns-clause-written
 returns-clause-written c =
