@@ -82,6 +82,31 @@ const ROWS: &[(&[u8], &[u8])] = &[
     // rows_of_no_bytes: no columns; NULL and the empty value, with values of no column
     (b"\x12\x01!", b""),
     (b"\x0a\x02\x01\x00\x12\x01!", b"\x0a\x02\x01\x00"),
+    // rows_as_written: values, NULL alone, values of 150 bytes
+    (
+        b"\x0a\x04\x02\x01\x00\x04\x12\x031ab",
+        b"\x0a\x04\x02\x01\x00\x04\x12\x031ab",
+    ),
+    (b"\x0a\x01\x01", b"\x0a\x01\x01"),
+    (
+        b"\x0a\x03ddd\x12\x96\x01012345678901234567890123456789012345678901234567890123456789012345678901234567890123456789012345678901234567890123456789012345678901234567890123456789",
+        b"\x0a\x03ddd\x12\x96\x01012345678901234567890123456789012345678901234567890123456789012345678901234567890123456789012345678901234567890123456789012345678901234567890123456789",
+    ),
+    // rows_spelled_otherwise: a byte past the last column, -2 for NULL, no values that are there, sizes and a
+    // length with a byte more than they need, the values first, another field
+    (b"\x0a\x01\x02\x12\x021!", b"\x0a\x01\x02\x12\x011"),
+    (b"\x0a\x02\x02\x03\x12\x011", b"\x0a\x02\x02\x01\x12\x011"),
+    (b"\x0a\x01\x01\x12\x00", b"\x0a\x01\x01"),
+    (b"\x0a\x81\x00\x02\x12\x011", b"\x0a\x01\x02\x12\x011"),
+    (b"\x0a\x01\x02\x12\x81\x001", b"\x0a\x01\x02\x12\x011"),
+    (b"\x0a\x02\x82\x00\x12\x011", b"\x0a\x01\x02\x12\x011"),
+    (b"\x12\x011\x0a\x01\x02", b"\x0a\x01\x02\x12\x011"),
+    (b"\x0a\x01\x02\x12\x011\x18\x01", b"\x0a\x01\x02\x12\x011"),
+    // a_value_of_64_bytes: its length has two bytes
+    (
+        b"\x0a\x02\x80\x01\x12\x400123456789012345678901234567890123456789012345678901234567890123",
+        b"\x0a\x02\x80\x01\x12\x400123456789012345678901234567890123456789012345678901234567890123",
+    ),
 ];
 
 /// Whether a row is written so.
