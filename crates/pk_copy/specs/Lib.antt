@@ -3,6 +3,8 @@ pub mod KeyValue
 pub mod KeyOrder
 pub mod KeyOrderLaws
 pub mod KeyFront
+pub mod FrontNumber
+pub mod FrontNumberLaws
 pub mod PartValue
 pub mod SmallPartValue
 pub mod KeyOf

@@ -3,6 +3,7 @@
 ghost use Rattle.std.specs.Prelude.{◌≡◌, ◌<◌, [], ◌∷◌, List, map, slice_index, None, IfSome};
 ghost use Rattle.pk_copy.specs.KeyValue.{KeyValue, Part, AreParts};
 ghost use Rattle.pk_copy.specs.KeyFront.{word, BeginsInBytes, IsFrontOf};
+ghost use Rattle.pk_copy.specs.FrontNumber.{front_number};
 ghost use Rattle.pk_copy.specs.KeyOrder.{key_cmp};
 ghost use Rattle.pk_copy.specs.PartValue.{part_value};
 ghost use Rattle.pk_copy.specs.SmallPartValue.{small_value};
@@ -21,6 +22,9 @@ pub(crate) struct Front {
     /// What orders first parts of one kind: a number, from 2^64 on down below 0, or the first eight bytes.
     pub(crate) head: u64,
 }
+
+/// The most that 54 bits have.
+const MOST: u64 = (1 << 54) - 1;
 
 /// The byte at a place of a text, 0 behind it.
 fn padded_at(text: &[u8], place: usize) -> u8
@@ -98,6 +102,22 @@ impl Front {
             [part, ..] => Front::of(table, SmallPart::from_part(*part)),
             [] => Front::bare(table),
         }
+    }
+}
+
+impl Front {
+    /// The front as one number: the lead, and below it what 54 bits have of the head.
+    pub(crate) fn number(self) -> u64
+        requires { self.lead < 1024 }
+        ensures { (key : KeyValue) → IsFrontOf self.lead self.head key → result ≡ front_number key }
+    {
+        let head = match self.lead % 4 {
+            1 => self.head.saturating_sub(u64::MAX - MOST),
+            2 => self.head.min(MOST),
+            3 => self.head / 1024,
+            _ => 0,
+        };
+        u64::from(self.lead) * (MOST + 1) + head
     }
 }
 

@@ -267,7 +267,7 @@ impl KeptKey {
 
     /// The key's front.
     #[inline(always)]
-    fn front(&self) -> Front
+    pub(crate) fn front(&self) -> Front
         ensures { (result.lead ≡ kept_lead self.now.rest) × (result.head ≡ self.now.head) }
     {
         Front {

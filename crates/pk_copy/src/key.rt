@@ -6,12 +6,15 @@ ghost use Rattle.std.specs.Cmp.{partial_equiv_from_equiv, eq_by_cmp_equiv, parti
 ghost use Rattle.pk_copy.specs.KeyValue.{IsPart, LiesInPlace};
 ghost use Rattle.pk_copy.specs.KeyOrder.{key_cmp};
 ghost use Rattle.pk_copy.specs.KeyOrderLaws.{key_cmp_total};
+ghost use Rattle.pk_copy.specs.FrontNumber.{front_number};
+ghost use Rattle.pk_copy.specs.FrontNumberLaws.{front_numbers_in_order};
 ghost use Rattle.pk_copy.specs.PartValue.{part_value};
 
 use crate::kept::{KeptKey, compare};
 use crate::lent::LentKey;
 use crate::part::KeyPart;
 use crate::view::KeyView;
+use key_front::Fronted;
 use std::alloc::{AllocError, Global};
 use std::cmp::Ordering;
 use std::marker::Model;
@@ -134,5 +137,15 @@ impl Ord for Key {
 
     fn cmp(&self, other: &Self) -> Ordering {
         compare(&self.kept, &other.kept)
+    }
+}
+
+impl Fronted for Key {
+    ghost front_of = { front_number };
+
+    ghost in_order = { front_numbers_in_order };
+
+    fn front(&self) -> u64 {
+        self.kept.front().number()
     }
 }

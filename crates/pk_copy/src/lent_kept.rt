@@ -197,7 +197,7 @@ impl<'b> LentKept<'b> {
 
     /// The key's front.
     #[inline(always)]
-    fn front(&self) -> Front
+    pub(crate) fn front(&self) -> Front
         ensures { (result.lead ≡ lent_lead self.now.rest) × (result.head ≡ self.now.head) }
     {
         Front {
