@@ -22,13 +22,12 @@ pub(crate) fn number(text: &[u8], low: u64) -> Result<u64, GtidFault>
         if !byte.is_ascii_digit() {
             return Err(GtidFault::BadNumber);
         }
-        let digit = u64::from(*byte - b'0');
-        if number > (LAST_NUMBER - digit) / 10 {
+        if number > LAST_NUMBER / 10 {
             return Err(GtidFault::BadNumber);
         }
-        number = number * 10 + digit;
+        number = number * 10 + u64::from(*byte - b'0');
     }
-    if number < low {
+    if number < low || LAST_NUMBER < number {
         return Err(GtidFault::BadNumber);
     }
     Ok(number)
