@@ -1,5 +1,5 @@
 -- The table of hexadecimal digits.
-use Rattle.std.proofs.Common.{◌≡◌, ℕ, zero, suc, ◌-◌, ◌<◌, ◌≤◌, Bool, true, ◌&&◌, T, eqb, get_or, Option, Some, None, ap, refl, unwrap_or, inl, inr, arith, eq-zero-or-pos, eqb→eq}
+use Rattle.std.proofs.Common.{◌≡◌, ℕ, zero, suc, ◌-◌, ◌<◌, ◌≤◌, Bool, true, ◌&&◌, T, eqb, get_or, Option, Some, None, ap, refl, sym, ◌∙◌, unwrap_or, ◌⊎◌, inl, inr, arith, eq-zero-or-pos, eqb→eq}
 use lib.Ieee.Fits.{and_l, and_r}
 use Rattle.gtid_set.specs.Digits.{hex_digit_of}
 use Rattle.gtid_set.specs.declared.digits.TheConstants.{HEX_VALUES}
@@ -18,24 +18,24 @@ below test (suc n) k t h =
     ]
 
 abbrev is_value : ℕ → Bool
-is_value b = eqb (get_or HEX_VALUES b 0) (unwrap_or (hex_digit_of b) 255)
+is_value b = eqb (get_or HEX_VALUES b 0) (unwrap_or (hex_digit_of b) 65536)
 
-value_of : (b : ℕ) → b < 256 → get_or HEX_VALUES b 0 ≡ unwrap_or (hex_digit_of b) 255
+pub value_of : (b : ℕ) → b < 256 → get_or HEX_VALUES b 0 ≡ unwrap_or (hex_digit_of b) 65536
 value_of b h = eqb→eq _ _ (below is_value 256 b tt h)
 
 digit_small : (b d : ℕ) → hex_digit_of b ≡ Some d → d < 16
 digit_small b d e = grind (arith)
 
-some_from : (b : ℕ) (o : Option ℕ) (v : ℕ) → hex_digit_of b ≡ o → v ≡ unwrap_or o 255 → v < 16 → Some v ≡ o
-some_from b None v is e small = absurd (omega arith)
-some_from b (Some d) v is e small = ap Some e
+-- a byte is no digit, or its value is below 16
+pub digit_or_none : (b v : ℕ) → v ≡ unwrap_or (hex_digit_of b) 65536 → (hex_digit_of b ≡ None) ⊎ ((hex_digit_of b ≡ Some v) × (v < 16))
+digit_or_none b v e = from (hex_digit_of b) refl e
+  where
+    from : (o : Option ℕ) → hex_digit_of b ≡ o → v ≡ unwrap_or o 65536 → (hex_digit_of b ≡ None) ⊎ ((hex_digit_of b ≡ Some v) × (v < 16))
+    from None is e = inl is
+    from (Some d) is e = inr (is ∙ ap Some (sym e), rw e (digit_small b d is))
 
-none_from : (b : ℕ) (o : Option ℕ) (v : ℕ) → hex_digit_of b ≡ o → v ≡ unwrap_or o 255 → 16 ≤ v → None ≡ o
-none_from b None v is e large = refl
-none_from b (Some d) v is e large = let small = digit_small b d is in absurd (omega arith)
-
-pub digit-some : (b : ℕ) → b < 256 → get_or HEX_VALUES b 0 < 16 → Some (get_or HEX_VALUES b 0) ≡ hex_digit_of b
-digit-some b fits small = some_from b (hex_digit_of b) _ refl (value_of b fits) small
-
-pub digit-none : (b : ℕ) → b < 256 → 16 ≤ get_or HEX_VALUES b 0 → None ≡ hex_digit_of b
-digit-none b fits large = none_from b (hex_digit_of b) _ refl (value_of b fits) large
+pub value_bound : (b v : ℕ) → v ≡ unwrap_or (hex_digit_of b) 65536 → v ≤ 65536
+value_bound b v e = elim (digit_or_none b v e) [
+  | inl none ↦ let is : v ≡ 65536 = rw none at e in omega arith
+  | inr some ↦ omega arith
+]

@@ -11,6 +11,7 @@ pub mod Parts
 pub mod DigitLaws
 pub mod HexTables
 pub mod UuidHalves
+pub mod HexFours
 pub mod FirstCut
 pub mod Reading
 pub mod PartLaws

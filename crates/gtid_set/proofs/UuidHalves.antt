@@ -26,7 +26,7 @@ behind-weight h f (b ∷ text) = by_digit (hex_digit_of b) refl (λ d.
     by_digit None e rest = rw e refl
     by_digit (Some d) e rest = rw e (rest d)
 
-with_front : (h : ℕ) (text : List ℕ) (o : Option ℕ) → behind 0 text ≡ o → behind h text ≡ option_map (λ n. h * 16 ^ length text + n) o
+pub with_front : (h : ℕ) (text : List ℕ) (o : Option ℕ) → behind 0 text ≡ o → behind h text ≡ option_map (λ n. h * 16 ^ length text + n) o
 with_front h text o e =
     let plain : h ≡ h + 0 = omega arith in
     ap (λ v. behind v text) plain ∙ behind-weight h 0 text ∙ ap (option_map (λ n. h * 16 ^ length text + n)) e

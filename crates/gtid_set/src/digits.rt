@@ -1,6 +1,6 @@
 //! Decimal numbers and uuids as text.
 
-ghost use Rattle.std.specs.Prelude.{◌≡◌, ◌+◌, ◌*◌, ◌^◌, ◌≤◌, ◌<◌, length, IfSome, IsTrue};
+ghost use Rattle.std.specs.Prelude.{◌≡◌, ◌+◌, ◌*◌, ◌%◌, ◌^◌, ◌≤◌, ◌<◌, [], ◌∷◌, length, unwrap_or, IfSome, IsTrue};
 ghost use Rattle.list_laws.specs.Outcome.{Gives};
 ghost use Rattle.gtid_set.specs.Digits.{digit_of, hex_digit_of, number_behind, decimal_of, is_hyphenated, uuid_of};
 ghost use Rattle.gtid_set.specs.Text.{number_from};
@@ -22,53 +22,75 @@ pub(crate) fn number(text: &[u8], low: u64) -> Result<u64, GtidFault>
         if !byte.is_ascii_digit() {
             return Err(GtidFault::BadNumber);
         }
-        let digit = u64::from(*byte - b'0');
-        if number > (LAST_NUMBER - digit) / 10 {
+        if number > LAST_NUMBER / 10 {
             return Err(GtidFault::BadNumber);
         }
-        number = number * 10 + digit;
+        number = number * 10 + u64::from(*byte - b'0');
     }
-    if number < low {
+    if number < low || LAST_NUMBER < number {
         return Err(GtidFault::BadNumber);
     }
     Ok(number)
 }
 
-/// The value of each byte as a hexadecimal digit of either case, 255 where it is none.
-static HEX_VALUES: [u8; 256] = [
-    255, 255, 255, 255, 255, 255, 255, 255, 255, 255, 255, 255, 255, 255, 255, 255, 255, 255, 255,
-    255, 255, 255, 255, 255, 255, 255, 255, 255, 255, 255, 255, 255, 255, 255, 255, 255, 255, 255,
-    255, 255, 255, 255, 255, 255, 255, 255, 255, 255, 0, 1, 2, 3, 4, 5, 6, 7, 8, 9, 255, 255, 255,
-    255, 255, 255, 255, 10, 11, 12, 13, 14, 15, 255, 255, 255, 255, 255, 255, 255, 255, 255, 255,
-    255, 255, 255, 255, 255, 255, 255, 255, 255, 255, 255, 255, 255, 255, 255, 255, 10, 11, 12, 13,
-    14, 15, 255, 255, 255, 255, 255, 255, 255, 255, 255, 255, 255, 255, 255, 255, 255, 255, 255,
-    255, 255, 255, 255, 255, 255, 255, 255, 255, 255, 255, 255, 255, 255, 255, 255, 255, 255, 255,
-    255, 255, 255, 255, 255, 255, 255, 255, 255, 255, 255, 255, 255, 255, 255, 255, 255, 255, 255,
-    255, 255, 255, 255, 255, 255, 255, 255, 255, 255, 255, 255, 255, 255, 255, 255, 255, 255, 255,
-    255, 255, 255, 255, 255, 255, 255, 255, 255, 255, 255, 255, 255, 255, 255, 255, 255, 255, 255,
-    255, 255, 255, 255, 255, 255, 255, 255, 255, 255, 255, 255, 255, 255, 255, 255, 255, 255, 255,
-    255, 255, 255, 255, 255, 255, 255, 255, 255, 255, 255, 255, 255, 255, 255, 255, 255, 255, 255,
-    255, 255, 255, 255, 255, 255, 255, 255, 255, 255, 255, 255, 255, 255, 255, 255, 255, 255, 255,
-    255, 255, 255,
+/// The value of each byte as a hexadecimal digit of either case, 65536 where it is none.
+static HEX_VALUES: [u32; 256] = [
+    65536, 65536, 65536, 65536, 65536, 65536, 65536, 65536, 65536, 65536, 65536, 65536, 65536,
+    65536, 65536, 65536, 65536, 65536, 65536, 65536, 65536, 65536, 65536, 65536, 65536, 65536,
+    65536, 65536, 65536, 65536, 65536, 65536, 65536, 65536, 65536, 65536, 65536, 65536, 65536,
+    65536, 65536, 65536, 65536, 65536, 65536, 65536, 65536, 65536, 0, 1, 2, 3, 4, 5, 6, 7, 8, 9,
+    65536, 65536, 65536, 65536, 65536, 65536, 65536, 10, 11, 12, 13, 14, 15, 65536, 65536, 65536,
+    65536, 65536, 65536, 65536, 65536, 65536, 65536, 65536, 65536, 65536, 65536, 65536, 65536,
+    65536, 65536, 65536, 65536, 65536, 65536, 65536, 65536, 65536, 65536, 10, 11, 12, 13, 14, 15,
+    65536, 65536, 65536, 65536, 65536, 65536, 65536, 65536, 65536, 65536, 65536, 65536, 65536,
+    65536, 65536, 65536, 65536, 65536, 65536, 65536, 65536, 65536, 65536, 65536, 65536, 65536,
+    65536, 65536, 65536, 65536, 65536, 65536, 65536, 65536, 65536, 65536, 65536, 65536, 65536,
+    65536, 65536, 65536, 65536, 65536, 65536, 65536, 65536, 65536, 65536, 65536, 65536, 65536,
+    65536, 65536, 65536, 65536, 65536, 65536, 65536, 65536, 65536, 65536, 65536, 65536, 65536,
+    65536, 65536, 65536, 65536, 65536, 65536, 65536, 65536, 65536, 65536, 65536, 65536, 65536,
+    65536, 65536, 65536, 65536, 65536, 65536, 65536, 65536, 65536, 65536, 65536, 65536, 65536,
+    65536, 65536, 65536, 65536, 65536, 65536, 65536, 65536, 65536, 65536, 65536, 65536, 65536,
+    65536, 65536, 65536, 65536, 65536, 65536, 65536, 65536, 65536, 65536, 65536, 65536, 65536,
+    65536, 65536, 65536, 65536, 65536, 65536, 65536, 65536, 65536, 65536, 65536, 65536, 65536,
+    65536, 65536, 65536, 65536, 65536, 65536, 65536, 65536, 65536, 65536, 65536, 65536, 65536,
+    65536, 65536, 65536, 65536, 65536, 65536, 65536, 65536, 65536, 65536,
 ];
 
-fn hex_digit(byte: u8) -> Option<u8>
-    ensures value { result ≡ hex_digit_of byte }
-    ensures small { IfSome result (λ d. d < 16) }
+fn hex_value(byte: u8) -> u32
+    ensures value { result ≡ unwrap_or (hex_digit_of byte) 65536 }
+    ensures bound { result ≤ 65536 }
 {
-    let value = HEX_VALUES[usize::from(byte)];
-    if value < 16 { Some(value) } else { None }
+    HEX_VALUES[usize::from(byte)]
 }
 
-/// The number of hexadecimal digits behind those that `front` stands for.
+/// The number of four hexadecimal digits. One test tells a byte that is none: its value is greater
+/// than each number of four digits.
+fn hex_four(first: u8, second: u8, third: u8, fourth: u8) -> Option<u64>
+    ensures value { result ≡ number_behind hex_digit_of 16 0 (first ∷ second ∷ third ∷ fourth ∷ []) }
+    ensures small { IfSome result (λ n. n < 65536) }
+{
+    let two = hex_value(first) * 16 + hex_value(second);
+    let three = two * 16 + hex_value(third);
+    let four = three * 16 + hex_value(fourth);
+    if four < 65536 {
+        Some(u64::from(four))
+    } else {
+        None
+    }
+}
+
+/// The number of hexadecimal digits, some fours of them, behind those that `front` stands for.
 fn hex_behind(front: u64, text: &[u8]) -> Option<u64>
-    requires { (front + 1) * 16 ^ length text.now ≤ 2 ^ 64 }
+    requires room { (front + 1) * 16 ^ length text.now ≤ 2 ^ 64 }
+    requires fours { length text.now % 4 ≡ 0 }
     ensures value { result ≡ number_behind hex_digit_of 16 front text.now }
     ensures small { IfSome result (λ n. n + 1 ≤ (front + 1) * 16 ^ length text.now) }
 {
     let mut number = front;
-    for byte in text {
-        number = number * 16 + u64::from(hex_digit(*byte)?);
+    let mut rest = text;
+    while let [first, second, third, fourth, behind @ ..] = rest {
+        number = number * 65536 + hex_four(*first, *second, *third, *fourth)?;
+        rest = behind;
     }
     Some(number)
 }

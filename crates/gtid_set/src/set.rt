@@ -95,7 +95,10 @@ impl GtidSet {
         ensures value { result ≡ within_of self.now other.now }
         ensures subset { IsTrue result ↔ IsWithin self.now other.now }
     {
-        are_within(self.intervals.as_slice(), other.intervals.as_slice())
+        match (&self.intervals, &other.intervals) {
+            (Intervals::One(some), Intervals::One(all)) => all.covers(some),
+            (some, all) => are_within(some.as_slice(), all.as_slice()),
+        }
     }
 
     /// The pairs of both sets, in time linear in their intervals. `Memory` is its only fault.

@@ -1,36 +1,38 @@
-use Rattle.std.proofs.Common.{◌≡◌, ℕ, ap, ◌<◌, ◌+◌, ◌-◌, ◌*◌, ◌^◌, ◌∙◌, sym, arith, get_or, length, Some}
-use Rattle.gtid_set.specs.Digits.{hex_digit_of}
-use Rattle.gtid_set.proofs.DigitLaws.{number_behind-next, room-next, room-value}
+use Rattle.std.proofs.Common.{◌≡◌, ℕ, ◌≤◌, ◌+◌, ◌-◌, ◌*◌, ◌^◌, ◌%◌, ◌∙◌, sym, ap, subst, arith, List, length}
+use Rattle.std.proofs.lemmas.List.{take_rest}
+use Rattle.gtid_set.specs.Digits.{hex_digit_of, number_behind}
+use Rattle.gtid_set.proofs.DigitLaws.{room-value}
+use Rattle.gtid_set.proofs.HexFours.{four-next, four-ends, left-length, room-four}
 use Rattle.gtid_set.proofs.digits.hex_behind.Goals as goal
 
 pub overflow_mul-number : goal.overflow_mul-number
 overflow_mul-number c =
-    let left = length c.args.text.now - c.loop-byte.byte-index in
-    let lt = c.loop-byte-test.true in
-    let next = room-next c.loop-byte.number 0 left (2 ^ 64) (omega arith) (omega arith) (omega (arith, c.requires, c.loop-byte.invariant.room)) in
-    let fits = room-value (c.loop-byte.number * 16 + 0) (left - 1) (2 ^ 64) next in
+    let l = length c.loop-rest.rest.now in
+    let next = room-four c.loop-rest.number 0 l (2 ^ 64) (omega arith) c.in-len4-up.len_at_least (omega (arith, c.requires.room, c.loop-rest.invariant.room)) in
+    let fits = room-value (c.loop-rest.number * 65536 + 0) (l - 4) (2 ^ 64) next in
     omega arith
 
 pub overflow_add-number : goal.overflow_add-number
 overflow_add-number c =
-    let left = length c.args.text.now - c.loop-byte.byte-index in
-    let lt = c.loop-byte-test.true in
-    let small : c.from.result < 16 = omega (arith, c.from.ensures, c.in_ok-hex_digit.ensures.small) in
-    let next = room-next c.loop-byte.number c.from.result left (2 ^ 64) small (omega arith) (omega (arith, c.requires, c.loop-byte.invariant.room)) in
-    let fits = room-value (c.loop-byte.number * 16 + c.from.result) (left - 1) (2 ^ 64) next in
+    let l = length c.loop-rest.rest.now in
+    let n = c.in_ok-number.field-0 in
+    let next = room-four c.loop-rest.number n l (2 ^ 64) c.in_ok-number.ensures.small c.in-len4-up.len_at_least (omega (arith, c.requires.room, c.loop-rest.invariant.room)) in
+    let fits = room-value (c.loop-rest.number * 65536 + n) (l - 4) (2 ^ 64) next in
     omega arith
 
-pub loop-byte-preserved : goal.loop-byte-preserved
-loop-byte-preserved c =
-    let text = c.args.text.now in
-    let k = c.loop-byte.byte-index in
-    let left = length text - k in
-    let lt = c.loop-byte-test.true in
-    let small : c.from.result < 16 = omega (arith, c.from.ensures, c.in_ok-hex_digit.ensures.small) in
-    let digit : hex_digit_of (get_or text k 0) ≡ Some c.from.result = sym c.in_ok-hex_digit.ensures.value ∙ ap (λ (n : ℕ). Some n) (sym c.from.ensures) in
-    let next = room-next c.loop-byte.number c.from.result left ((c.args.front + 1) * 16 ^ length text) small (omega arith) c.loop-byte.invariant.room in
-    let same : length text - (k + 1) ≡ left - 1 = omega arith in
+pub returns-in_err-number-clause-value : goal.returns-in_err-number-clause-value
+returns-in_err-number-clause-value c =
+    c.from_residual.ensures ∙ sym (sym c.loop-rest.invariant.number ∙ four-ends c.loop-rest.number c.loop-rest.rest.now c.in-len4-up.len_at_least c.in_err-number.ensures.value)
+
+pub loop-rest-preserved : goal.loop-rest-preserved
+loop-rest-preserved c =
+    let rest = c.loop-rest.rest.now in
+    let some = c.in-len4-up.len_at_least in
+    let n = c.in_ok-number.field-0 in
+    let left = sym (left-length rest) in
+    let limit = (c.args.front + 1) * 16 ^ length c.args.text.now in
     record {
-      number = sym (number_behind-next hex_digit_of 16 c.loop-byte.number text k c.from.result lt digit) ∙ c.loop-byte.invariant.number;
-      room = rw same next;
+      number = ap (λ (s : List ℕ). number_behind hex_digit_of 16 (c.loop-rest.number * 65536 + n) s) (take_rest rest 4) ∙ sym (four-next c.loop-rest.number rest n some c.in_ok-number.ensures.value) ∙ c.loop-rest.invariant.number;
+      room = subst (λ (k : ℕ). (c.loop-rest.number * 65536 + n + 1) * 16 ^ k ≤ limit) left (room-four c.loop-rest.number n (length rest) limit c.in_ok-number.ensures.small some c.loop-rest.invariant.room);
+      fours = subst (λ (k : ℕ). k % 4 ≡ 0) left (omega (arith, c.loop-rest.invariant.fours, some));
     }
