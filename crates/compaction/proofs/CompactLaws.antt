@@ -136,7 +136,7 @@ module _ (law : BytesAreCompacted) (again : MessagesAreReadAgain) (feed : FeedVa
 -- groups that aren't sound are one where the feed can be cut
 pub unsound_stands : (feed : FeedValue) (bytes : List ℕ) (unknown : UnknownTables) (number : ℕ) (fault : FeedFault) → HasGroup feed number → KeepsAll feed bytes unknown number
     → IfSome (meant_of fault) (StopsBefore feed number) → IsCause feed bytes unknown number (refusal_of_feed fault)
-unsound_stands feed bytes unknown number feed_fault.Memory has keeps stops = tt
+unsound_stands feed bytes unknown number feed_fault.Memory has keeps stops = has
 unsound_stands feed bytes unknown number fault has keeps stops = (has, keeps, stops)
 
 -- what is beyond the limits, or wants memory, comes last
@@ -145,4 +145,4 @@ pub limit_stands : (feed : FeedValue) (bytes : List ℕ) (unknown : UnknownTable
     → IsCause feed bytes unknown number (refusal_of_write fault)
 limit_stands feed bytes unknown number fields place others rest left TooLong cuts sound are_left over =
     (cuts.has, cuts.keeps, sound, record { fields = fields; place = place; others = others; rest = rest; cut = cuts; left = left; are_left = are_left; over = over })
-limit_stands feed bytes unknown number fields place others rest left Memory cuts sound are_left over = tt
+limit_stands feed bytes unknown number fields place others rest left Memory cuts sound are_left over = cuts.has

@@ -136,10 +136,11 @@ refusal_of_feed feed.Memory = Memory
 refusal_of_feed fault = Unsound fault
 
 -- What stands in a feed that isn't compacted up to a group: the first of these that isn't as it must be, and last that the new
--- feed would be too long. Nothing is said of a want of memory.
+-- feed would be too long. Memory is wanted of a feed that has the group: of each such one, for the FIELDs in force there or for
+-- the base.
 abbrev pub IsCause : FeedValue → List ℕ → UnknownTables → ℕ → CompactFault → Type 0
 IsCause feed bytes unknown number NoCut = (number ≡ 0) ⊎ (length feed.groups < number)
 IsCause feed bytes unknown number UnknownTable = HasGroup feed number × LosesSome feed bytes unknown number
 IsCause feed bytes unknown number (Unsound fault) = HasGroup feed number × KeepsAll feed bytes unknown number × IfSome (meant_of fault) (StopsBefore feed number)
 IsCause feed bytes unknown number TooLong = HasGroup feed number × KeepsAll feed bytes unknown number × AreSound feed number × IsTooLong feed bytes unknown number
-IsCause feed bytes unknown number Memory = Unit {0}
+IsCause feed bytes unknown number Memory = HasGroup feed number

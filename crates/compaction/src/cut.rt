@@ -1,6 +1,6 @@
 //! Where a feed is cut, and what would be lost there.
 
-ghost use Rattle.std.specs.Prelude.{◌≡◌, ◌⊎◌, ℕ, List, take, IfErr, IfOk, IsTrue, Ok, Err};
+ghost use Rattle.std.specs.Prelude.{◌≡◌, ◌⊎◌, ◌↔◌, ℕ, List, take, IfErr, IfOk, IsErr, IsTrue, Ok, Err};
 ghost use Rattle.std.specs.List.{AllByRecursion, list_any};
 ghost use Rattle.source_feed.specs.GroupValue.{GroupValue};
 ghost use Rattle.source_feed.specs.Groups.{groups};
@@ -70,7 +70,7 @@ fn have_unknown<M: Meter>(plan: &Plan, groups: &Groups<'_>, number: u32, meter: 
 
 /// Every FIELD is of a table of the plan.
 fn are_known(plan: &Plan, fields: &[FieldBytes<'_>]) -> bool
-    ensures { IsTrue result → AllByRecursion (IsOfPlan plan.now) fields.now }
+    ensures { IsTrue result ↔ AllByRecursion (IsOfPlan plan.now) fields.now }
 {
     let source = Source::new(plan.keyspace(), plan.shard());
     for field in fields {
@@ -97,6 +97,8 @@ fn would_lose<M: Meter>(
     ensures lost { IfOk result (λ lost. (all : List GroupValue) (place : List ℕ) (others : List (List ℕ)) (rest : List ℕ) → groups bytes.now (source_of feed.now.plan) ≡ Ok all
         → IsCutBehind bytes.now (source_of feed.now.plan) number fields.now place others rest → lost ≡ loses feed.now.plan unknown (take number all)) }
     ensures memory { IfErr result (λ fault. fault ≡ Memory) }
+    // It is wanted only where some may be lost.
+    ensures wanted { IsErr result → (unknown ≡ UnknownTables.Refused) × ¬ AllByRecursion (IsOfPlan feed.now.plan) fields.now }
 {
     if unknown == UnknownTables::LeftOut {
         return Ok(false);

@@ -9,5 +9,5 @@ returns-then-are_known-clause-lost g c =
     let seen = c.deref.ensures in
     let value = c.plan-plan.ensures.value in
     let is : c.deref.result.now ≡ c.args.feed.now.plan = cc in
-    let known = subst (λ plan. AllByRecursion (IsOfPlan plan) c.args.fields.now) is (c.are_known.ensures c.if-are_known.true) in
+    let known = subst (λ plan. AllByRecursion (IsOfPlan plan) c.args.fields.now) is (c.are_known.ensures.0 c.if-are_known.true) in
     none_loses c.changes_have_columns.ensures c.args.feed.now.plan c.args.bytes.now c.args.number c.args.fields.now c.args.unknown known
