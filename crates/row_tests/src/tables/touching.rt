@@ -1,5 +1,6 @@
 //! Groups of touches that stand in a test, and what they leave in a map.
 
+use key_front::Fronted;
 use std::alloc::{AllocError, Global};
 use std::test::Fail;
 use target_tables::*;
@@ -14,7 +15,7 @@ pub struct Group<K: 'static, R: 'static> {
 }
 
 /// Applies a stream's touches; the key and the owner of the row that is in the way, if one is.
-pub fn touch<K: Ord + Clone + Drop, R: Clone + Drop>(
+pub fn touch<K: Fronted + Clone + Drop, R: Clone + Drop>(
     alloc: Global,
     tables: &mut Tables<K, R>,
     stream: u8,
@@ -28,7 +29,7 @@ pub fn touch<K: Ord + Clone + Drop, R: Clone + Drop>(
 }
 
 /// Whether these are all entries, in order.
-pub fn holds<K: Ord, R: PartialEq>(tables: &Tables<K, R>, wanted: &[(K, u8, R)]) -> bool {
+pub fn holds<K: Fronted, R: PartialEq>(tables: &Tables<K, R>, wanted: &[(K, u8, R)]) -> bool {
     let mut left = wanted.iter();
     for (key, stream, row) in tables.iter() {
         match left.next() {
@@ -40,7 +41,7 @@ pub fn holds<K: Ord, R: PartialEq>(tables: &Tables<K, R>, wanted: &[(K, u8, R)])
 }
 
 /// Whether these are the keys, in order.
-pub fn are_keys<K: Ord, R>(scan: Scan<'_, K, R>, wanted: &[K]) -> bool {
+pub fn are_keys<K: Fronted, R>(scan: Scan<'_, K, R>, wanted: &[K]) -> bool {
     let mut left = wanted.iter();
     for (key, _, _) in scan {
         match left.next() {
@@ -52,7 +53,7 @@ pub fn are_keys<K: Ord, R>(scan: Scan<'_, K, R>, wanted: &[K]) -> bool {
 }
 
 /// Whether the group is refused as wanted, and leaves these entries.
-pub fn leaves<K: Ord + Clone + Drop, R: PartialEq + Clone + Drop>(
+pub fn leaves<K: Fronted + Clone + Drop, R: PartialEq + Clone + Drop>(
     alloc: Global,
     tables: &mut Tables<K, R>,
     group: &Group<K, R>,
@@ -62,7 +63,7 @@ pub fn leaves<K: Ord + Clone + Drop, R: PartialEq + Clone + Drop>(
 }
 
 /// Whether the groups, on an empty map and one after another, are each refused as wanted and leave these entries.
-pub fn follow<K: Ord + Clone + Drop, R: PartialEq + Clone + Drop>(
+pub fn follow<K: Fronted + Clone + Drop, R: PartialEq + Clone + Drop>(
     alloc: Global,
     groups: &[Group<K, R>],
 ) -> Result<bool, AllocError> {
