@@ -76,6 +76,7 @@ pair_more set added right lacks uuid n = same_test (has set uuid n || has (last_
         | inr nothing ↦ absurd (false≢true nothing)
       ]
     ]
+
     back : (has set uuid n || has (added ∷ []) uuid n) ≡ true → (has set uuid n || has (last_of added ∷ []) uuid n) ≡ true
     back e = elim (or_cases (has set uuid n) (has (added ∷ []) uuid n) e) [
       | inl old ↦ or_left (has set uuid n) (has (last_of added ∷ []) uuid n) old
@@ -120,7 +121,7 @@ not_within : ((a b : List Interval) → IsCanonical a → IsCanonical b → IsTr
 not_within law set added right lacks = elim (cases_Bool (within_of (added ∷ []) set)) [
   | inl within ↦
       let last : has (added ∷ []) added.uuid added.last ≡ true =
-        or_left (holds added added.uuid added.last) false (and_from _ _ (eq-eqb added.uuid added.uuid refl) (and_from _ _ (le-leb added.first added.last right.holds_first) (le-leb added.last added.last (omega arith))))
+      or_left (holds added added.uuid added.last) false (and_from _ _ (eq-eqb added.uuid added.uuid refl) (and_from _ _ (le-leb added.first added.last right.holds_first) (le-leb added.last added.last (omega arith))))
       in
       let there : has set added.uuid added.last ≡ true = (law (added ∷ []) set (right, tt, tt) lacks.canonical).0 within added.uuid added.last last in
       absurd (true≢false (sym there ∙ lacks.last))
