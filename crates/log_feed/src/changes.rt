@@ -75,9 +75,9 @@ fn fill_change(
     }
 }
 
-/// The rows and the messages of one change at a time.
+/// The rows and the messages of one change at a time. Their memory is kept for the next one.
 #[derive(Drop)]
-struct OneChange {
+pub(crate) struct OneChange {
     before: WrittenCells,
     after: WrittenCells,
     row: Vec<u8>,
@@ -85,8 +85,8 @@ struct OneChange {
 }
 
 impl OneChange {
-    /// Nothing yet.
-    fn new(alloc: Global) -> OneChange {
+    /// Nothing yet. Takes no memory.
+    pub(crate) fn new(alloc: Global) -> OneChange {
         OneChange {
             before: WrittenCells::new(alloc),
             after: WrittenCells::new(alloc),
@@ -157,7 +157,7 @@ fn put_next(
 
 /// Appends all changes of a row event, each as one of a feed's row event.
 pub(crate) fn put_changes(
-    alloc: Global,
+    one: &mut OneChange,
     out: &mut Vec<u8>,
     kind: RowsKind,
     columns: &[LogColumn<'_>],
@@ -167,9 +167,8 @@ pub(crate) fn put_changes(
     ensures { GivesUnless trouble_meant (λ x. out.new.items) result (with_changes kind (changes_of kind (map column_value columns.now) rows.now).items (changes_of kind (map column_value columns.now) rows.now).fault out.old.items) }
 {
     let mut changes = Rows::new(kind, columns, rows);
-    let mut one = OneChange::new(alloc);
     loop {
-        match put_next(&mut one, &mut changes, out, kind) {
+        match put_next(one, &mut changes, out, kind) {
             Ok(more) => {
                 if !more {
                     return Ok(());

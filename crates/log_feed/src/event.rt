@@ -13,7 +13,7 @@ ghost use Rattle.log_feed.specs.Table.{table_value, field_of};
 ghost use Rattle.log_feed.specs.Rows.{field_event_of, row_told, told_under, row_of};
 ghost use Rattle.log_feed.specs.Private.Bytes.{event_with, event_bytes, rows_bytes};
 
-use crate::changes::{put_changes, put_message};
+use crate::changes::{OneChange, put_changes, put_message};
 use crate::fault::{Trouble, TroubleError};
 use crate::table::FeedTable;
 use log_rows::{RowsHead, RowsKind};
@@ -21,18 +21,19 @@ use log_tables::{LogColumn, TableError, TableMap, Wanted, columns_of};
 use proto_wire::{put_number, put_text};
 use std::alloc::{AllocError, Global};
 
+/// How many bytes a position's text and what is told around it mostly have at most.
+const PLACE: usize = 192;
+
+/// How many bytes stand before a message at most: a type, a number and the message's length.
+const HEAD: usize = 24;
+
 /// The event of a type with a message under a field number.
-fn event_with(
-    alloc: Global,
-    kind: u64,
-    number: u32,
-    message: Vec<u8>,
-) -> Result<Vec<u8>, AllocError>
-    ensures { IfOk result (λ event. event.items ≡ event_with kind number message.items) }
+fn event_with(alloc: Global, kind: u64, number: u32, message: &[u8]) -> Result<Vec<u8>, AllocError>
+    ensures { IfOk result (λ event. event.items ≡ event_with kind number message.now) }
 {
-    let mut event = Vec::new(alloc);
+    let mut event = Vec::with_capacity(alloc, message.len().saturating_add(HEAD))?;
     put_number(&mut event, 1, kind)?;
-    put_message(&mut event, number, &message)?;
+    put_message(&mut event, number, message)?;
     Ok(event)
 }
 
@@ -63,13 +64,13 @@ pub fn position_event(
 ) -> Result<Vec<u8>, AllocError>
     ensures { IfOk result (λ event. event.items ≡ written_event (Vgtid (record { keyspace = keyspace.now; shard = shard.now; gtid = position.now } ∷ []))) }
 {
-    let mut entry = Vec::new(alloc);
+    let mut entry = Vec::with_capacity(alloc, PLACE)?;
     put_text(&mut entry, 1, keyspace.as_bytes())?;
     put_text(&mut entry, 2, shard.as_bytes())?;
     put_text(&mut entry, 3, position.as_bytes())?;
-    let mut vgtid = Vec::new(alloc);
+    let mut vgtid = Vec::with_capacity(alloc, PLACE)?;
     put_message(&mut vgtid, 1, &entry)?;
-    event_with(alloc, 15, 7, vgtid)
+    event_with(alloc, 15, 7, &vgtid)
 }
 
 /// The message of a column.
@@ -115,7 +116,7 @@ pub fn field_event(alloc: Global, table: &FeedTable<'_>) -> Result<Vec<u8>, Allo
     ensures { IfOk result (λ event. event.items ≡ written_event (field_event_of (table_value table.now))) }
 {
     let message = fields_message(alloc, table.name.as_bytes(), &table.columns)?;
-    event_with(alloc, 13, 6, message)
+    event_with(alloc, 13, 6, &message)
 }
 
 /// The columns of a table map, under those of a table.
@@ -133,28 +134,45 @@ fn columns_under<'b>(
     }
 }
 
-/// The message of a row event of a table of this name, under its columns.
-fn rows_message(
-    alloc: Global,
+/// The message of one row event at a time. Its memory is kept for the next one.
+#[derive(Drop)]
+pub(crate) struct OneMessage {
+    change: OneChange,
+    message: Vec<u8>,
+}
+
+impl OneMessage {
+    /// Nothing yet. Takes no memory.
+    pub(crate) fn new(alloc: Global) -> OneMessage {
+        OneMessage {
+            change: OneChange::new(alloc),
+            message: Vec::new(alloc),
+        }
+    }
+}
+
+/// Makes the message of a row event of a table of this name, under its columns.
+fn fill_message(
+    one: &mut OneMessage,
     name: &str,
     kind: RowsKind,
     head: &RowsHead<'_>,
     columns: &[LogColumn<'_>],
-) -> Result<Vec<u8>, TroubleError>
-    ensures { GivesUnless trouble_meant (λ m. m.items) result (rows_bytes name.now kind (head_value head.now) (map column_value columns.now)) }
+) -> Result<(), TroubleError>
+    ensures { GivesUnless trouble_meant (λ x. one.new.message.items) result (rows_bytes name.now kind (head_value head.now) (map column_value columns.now)) }
 {
     if !head.has_all(columns.len()) {
         return Err(TroubleError::Is(Trouble::NotAll));
     }
-    let mut message = Vec::new(alloc);
-    put_text(&mut message, 1, name.as_bytes())?;
-    put_changes(alloc, &mut message, kind, columns, head.rows)?;
-    Ok(message)
+    one.message.clear();
+    put_text(&mut one.message, 1, name.as_bytes())?;
+    put_changes(&mut one.change, &mut one.message, kind, columns, head.rows)
 }
 
 /// The ROW of a row event of a table of this name, under its columns.
 fn row_under(
     alloc: Global,
+    one: &mut OneMessage,
     name: &str,
     kind: RowsKind,
     head: &RowsHead<'_>,
@@ -162,17 +180,19 @@ fn row_under(
 ) -> Result<Vec<u8>, TroubleError>
     ensures { GivesUnless trouble_meant (λ event. event.items) result (event_bytes (row_told name.now (told_under kind (head_value head.now) (map column_value columns.now)))) }
 {
-    let message = match rows_message(alloc, name, kind, head, columns) {
-        Ok(message) => message,
-        Err(error) => return Err(error),
-    };
-    let event = event_with(alloc, 12, 5, message)?;
-    Ok(event)
+    match fill_message(one, name, kind, head, columns) {
+        Ok(()) => {
+            let event = event_with(alloc, 12, 5, &one.message)?;
+            Ok(event)
+        }
+        Err(error) => Err(error),
+    }
 }
 
 /// The ROW of a row event.
 pub(crate) fn row_event(
     alloc: Global,
+    one: &mut OneMessage,
     kind: RowsKind,
     table_map: &TableMap<'_>,
     head: &RowsHead<'_>,
@@ -181,5 +201,5 @@ pub(crate) fn row_event(
     ensures { GivesUnless trouble_meant (λ event. event.items) result (event_bytes (row_of kind (map_value table_map.now) (head_value head.now) (table_value table.now))) }
 {
     let columns = columns_under(alloc, table, table_map)?;
-    row_under(alloc, table.name, kind, head, &columns)
+    row_under(alloc, one, table.name, kind, head, &columns)
 }

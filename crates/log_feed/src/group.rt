@@ -1,6 +1,6 @@
 //! What a feed tells of a transaction's changes.
 
-ghost use Rattle.std.specs.Prelude.{◌≡◌, ◌++◌, [], ◌∷◌, slice_set, map, option_map, OnOk};
+ghost use Rattle.std.specs.Prelude.{◌≡◌, ◌++◌, ◌-◌, [], ◌∷◌, length, slice_index_or, slice_set, map, option_map, OnOk};
 ghost use Rattle.std.specs.Str.{bytes_eq};
 ghost use Rattle.list_laws.specs.Outcome.{GivesUnless};
 ghost use Rattle.vevent.specs.WrittenEvent.{written_event};
@@ -14,7 +14,7 @@ ghost use Rattle.log_feed.specs.Rows.{field_event_of, row_of, events_of_rows};
 ghost use Rattle.log_feed.specs.Group.{altered_at, altered_from, rows_there, rows_at, told_of, told_of_all, with_told};
 ghost use Rattle.log_feed.specs.Private.Bytes.{with_event, with_events};
 
-use crate::event::{field_event, row_event};
+use crate::event::{OneMessage, field_event, row_event};
 use crate::fault::{ChangeError, ChangeFault, Trouble, TroubleError};
 use crate::statement::alters_to;
 use crate::table::{FeedTable, Stage};
@@ -43,11 +43,25 @@ fn set_stage(stages: &mut Vec<Stage>, table: usize, stage: Stage)
     }
 }
 
+/// The last byte of a name, by which most tables of one feed differ.
+fn last_byte(name: &[u8]) -> u8
+    ensures { result ≡ slice_index_or name.now (length name.now - 1) 0 }
+{
+    match name.get(name.len().saturating_sub(1)) {
+        Some(byte) => *byte,
+        None => 0,
+    }
+}
+
 /// Whether a table has a name.
 fn is_named(table: &FeedTable<'_>, name: &[u8]) -> bool
     ensures { result ≡ bytes_eq (table_value table.now).name name.now }
 {
-    table.name.as_bytes() == name
+    let own = table.name.as_bytes();
+    if last_byte(own) != last_byte(name) {
+        return false;
+    }
+    own == name
 }
 
 /// The table of a name, and its place.
@@ -130,6 +144,7 @@ fn push_event(events: &mut Vec<Vec<u8>>, event: Vec<u8>) -> Result<(), AllocErro
 /// Appends the ROW of a row event.
 fn put_row(
     alloc: Global,
+    one: &mut OneMessage,
     events: &mut Vec<Vec<u8>>,
     kind: RowsKind,
     table_map: &TableMap<'_>,
@@ -138,7 +153,7 @@ fn put_row(
 ) -> Result<(), TroubleError>
     ensures { GivesUnless trouble_meant (λ x. map (λ e. e.items) events.new.items) result (with_event (row_of kind (map_value table_map.now) (head_value head.now) (table_value table.now)) (map (λ e. e.items) events.old.items)) }
 {
-    let event = row_event(alloc, kind, table_map, head, table)?;
+    let event = row_event(alloc, one, kind, table_map, head, table)?;
     push_event(events, event)?;
     Ok(())
 }
@@ -159,6 +174,7 @@ fn put_field(
 #[tactic(auto, unfolding(crate::specs::Rows::events_of_rows))]
 fn put_rows(
     alloc: Global,
+    one: &mut OneMessage,
     events: &mut Vec<Vec<u8>>,
     kind: RowsKind,
     table_map: &TableMap<'_>,
@@ -172,9 +188,9 @@ fn put_rows(
         Stage::Absent => Err(TroubleError::Is(Trouble::NotMade)),
         Stage::Made => {
             put_field(alloc, events, table)?;
-            put_row(alloc, events, kind, table_map, head, table)
+            put_row(alloc, one, events, kind, table_map, head, table)
         }
-        Stage::Filled => put_row(alloc, events, kind, table_map, head, table),
+        Stage::Filled => put_row(alloc, one, events, kind, table_map, head, table),
     }
 }
 
@@ -182,6 +198,7 @@ fn put_rows(
 fn put_rows_there(
     alloc: Global,
     stages: &mut Vec<Stage>,
+    one: &mut OneMessage,
     events: &mut Vec<Vec<u8>>,
     kind: RowsKind,
     table_map: &TableMap<'_>,
@@ -192,7 +209,7 @@ fn put_rows_there(
     ensures { GivesUnless meant (λ x. (map (λ e. e.items) events.new.items, stages.new.items)) result (with_told (rows_there place kind (map_value table_map.now) (head_value head.now) stages.old.items (table_value table.now)) (map (λ e. e.items) events.old.items)) }
 {
     let stage = stage_at(stages, place);
-    match put_rows(alloc, events, kind, table_map, head, table, stage) {
+    match put_rows(alloc, one, events, kind, table_map, head, table, stage) {
         Ok(()) => {
             set_stage(stages, place, Stage::Filled);
             Ok(())
@@ -206,6 +223,7 @@ fn put_rows_at(
     alloc: Global,
     tables: &[FeedTable<'_>],
     stages: &mut Vec<Stage>,
+    one: &mut OneMessage,
     events: &mut Vec<Vec<u8>>,
     kind: RowsKind,
     table_map: &TableMap<'_>,
@@ -216,7 +234,7 @@ fn put_rows_at(
     match table_of(tables, table_map.name) {
         None => Ok(()),
         Some((place, table)) => put_rows_there(
-            alloc, stages, events, kind, table_map, head, place, table,
+            alloc, stages, one, events, kind, table_map, head, place, table,
         ),
     }
 }
@@ -235,6 +253,7 @@ fn put_done(
     schema: &[u8],
     tables: &[FeedTable<'_>],
     stages: &mut Vec<Stage>,
+    one: &mut OneMessage,
     events: &mut Vec<Vec<u8>>,
     done: &Done<'_>,
 ) -> Result<(), ChangeError>
@@ -245,7 +264,7 @@ fn put_done(
             if !is_same(table_map.schema, schema) {
                 return Ok(());
             }
-            put_rows_at(alloc, tables, stages, events, *kind, table_map, head)
+            put_rows_at(alloc, tables, stages, one, events, *kind, table_map, head)
         }
         Done::Altered(query) => alter_all(schema, tables, stages, query),
     }
@@ -257,13 +276,14 @@ fn put_all(
     schema: &[u8],
     tables: &[FeedTable<'_>],
     stages: &mut Vec<Stage>,
+    one: &mut OneMessage,
     events: &mut Vec<Vec<u8>>,
     changes: &[Done<'_>],
 ) -> Result<(), ChangeError>
     ensures { GivesUnless meant (λ x. (map (λ e. e.items) events.new.items, stages.new.items)) result (with_told (told_of_all schema.now (map table_value tables.now) (map done_value changes.now) stages.old.items) (map (λ e. e.items) events.old.items)) }
 {
     for done in changes {
-        if let Err(error) = put_done(alloc, schema, tables, stages, events, done) {
+        if let Err(error) = put_done(alloc, schema, tables, stages, one, events, done) {
             return Err(error);
         }
     }
@@ -277,6 +297,7 @@ pub struct GroupWriter<'t, 'w> {
     schema: &'t [u8],
     tables: &'t [FeedTable<'w>],
     stages: Vec<Stage>,
+    one: OneMessage,
 }
 
 impl<'t, 'w> Model for GroupWriter<'t, 'w> {
@@ -298,10 +319,12 @@ impl<'t, 'w> GroupWriter<'t, 'w> {
     ) -> GroupWriter<'t, 'w>
         ensures { result ≡ record { schema = schema.now; tables = map table_value tables.now; stages = stages.items } }
     {
+        let one = OneMessage::new(*stages.allocator());
         GroupWriter {
             schema,
             tables,
             stages,
+            one,
         }
     }
 
@@ -321,6 +344,7 @@ impl<'t, 'w> GroupWriter<'t, 'w> {
             self.schema,
             self.tables,
             &mut self.stages,
+            &mut self.one,
             &mut events,
             changes,
         )?;

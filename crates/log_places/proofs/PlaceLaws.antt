@@ -1,10 +1,8 @@
 -- The position behind a transaction, by what it adds.
-use Rattle.std.proofs.Common.{◌≡◌, Bool, true, false, cond, List, [], ◌∷◌, Result, Ok, Err, refl, sym, ap, ◌∙◌}
-use Rattle.list_laws.specs.Outcome.{◌>>=◌}
+use Rattle.std.proofs.Common.{◌≡◌, Bool, false, cond, List, [], ◌∷◌, Ok, Err, refl, sym, ap, ◌∙◌}
 use Rattle.gtid_set.specs.declared.interval.Interval.{Interval}
 use Rattle.gtid_set.specs.Position.{union_of, within_of}
 use Rattle.log_groups.specs.Step.{GtidValue}
-use Rattle.log_places.specs.declared.fault.PlaceFault.{PlaceFault}
 use Rattle.log_places.specs.declared.fault.PlaceFault.TheVariants.{GoesBack}
 use Rattle.log_places.specs.Added.{added_by}
 use Rattle.log_places.specs.Place.{position_behind}

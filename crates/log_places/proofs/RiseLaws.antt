@@ -1,8 +1,7 @@
 -- Behind a transaction the position has more than before.
-use Rattle.std.proofs.Common.{◌≡◌, ℕ, Bool, true, false, cond, List, [], ◌∷◌, Result, Ok, Err, refl, sym, ap, ◌∙◌, inl, inr}
+use Rattle.std.proofs.Common.{◌≡◌, ℕ, false, cond, List, [], ◌∷◌, Result, Ok, Err, refl, sym, ◌∙◌, inl, inr}
 use Rattle.std.specs.Prelude.{IsTrue, ◌↔◌, ◌^◌, ◌&&◌, nat_lt, nat_le, Option, None, Some}
 use Rattle.std.proofs.lemmas.Bool.{cases_Bool, and_parts, ltb-true, leb-true}
-use Rattle.list_laws.specs.Outcome.{◌>>=◌}
 use Rattle.gtid_set.specs.declared.interval.Interval.{Interval}
 use Rattle.gtid_set.specs.Position.{IsInterval, IsCanonical, IsWithin, last_number, union_of, within_of}
 use Rattle.log_groups.specs.Step.{GtidValue, Maria, Mysql}

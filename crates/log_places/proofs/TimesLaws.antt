@@ -1,6 +1,6 @@
 -- A step that is made so many times, one on.
-use Rattle.std.proofs.Common.{◌≡◌, ℕ, suc, List, Option, None, Some, Result, Ok, Err, refl, sym, ap, ◌∙◌}
-use Rattle.list_laws.specs.Outcome.{◌>>=◌, Refuses}
+use Rattle.std.proofs.Common.{◌≡◌, ℕ, suc, Result, Ok, Err, refl, sym, ◌∙◌}
+use Rattle.list_laws.specs.Outcome.{Refuses}
 use Rattle.log_places.specs.declared.fault.PlaceFault.{PlaceFault}
 use Rattle.log_places.specs.declared.fault.PlaceError.{PlaceError}
 use Rattle.log_places.specs.declared.fault.PlaceError.TheVariants.{Memory, Fault}

@@ -3,6 +3,8 @@
 ghost use Rattle.std.specs.Prelude.{◌≡◌, ◌++◌, ◌∷◌, [], map, string_bytes, IfOk, OnOk};
 ghost use Rattle.list_laws.specs.Outcome.{GivesUnless};
 ghost use Rattle.gtid_set.specs.Printed.{printed_position};
+ghost use Rattle.vevent.specs.EventValue.{Begin, Commit};
+ghost use Rattle.vevent.specs.WrittenEvent.{written_event};
 ghost use Rattle.event_laws.specs.WrittenMessages.{written_response, framed};
 ghost use Rattle.log_laws.specs.Transcript.{place_told};
 ghost use Rattle.log_transcribe.specs.Private.Bytes.{tell_meant, event_bytes, transaction_bytes, events_put, last_put};
@@ -10,18 +12,22 @@ ghost use Rattle.log_transcribe.specs.Private.Bytes.{tell_meant, event_bytes, tr
 use crate::fault::TellError;
 use feed_bytes::write_message;
 use gtid_set::GtidSet;
-use log_feed::{begin_event, commit_event, position_event};
+use log_feed::position_event;
 use log_laws::TellFault;
 use std::alloc::{AllocError, Global};
 
 /// How many bytes the text of a position may have in a feed.
 const LIMIT: usize = 1 << 20;
 
+/// How many bytes the text of a position of one interval has at most: a uuid, a colon, two numbers and a hyphen.
+const ONE: usize = 80;
+
 /// The printed text of a position.
 fn text_of(alloc: Global, position: &GtidSet) -> Result<String, AllocError>
     ensures { IfOk result (λ text. string_bytes text ≡ printed_position position.now) }
 {
-    let text = format!(in alloc; "{position}")?;
+    let mut text = String::with_capacity(alloc, ONE)?;
+    write!(text, "{position}")?;
     Ok(text)
 }
 
@@ -52,7 +58,7 @@ fn around<'e>(
 ) -> Result<Vec<&'e [u8]>, AllocError>
     ensures { IfOk result (λ all. map (λ e. e.now) all.items ≡ begin.entry.now ∷ (map (λ e. e.items) events.entry.now ++ (place.entry.now ∷ commit.entry.now ∷ []))) }
 {
-    let mut all = Vec::new(alloc);
+    let mut all = Vec::with_capacity(alloc, events.len().saturating_add(3))?;
     all.push(begin)?;
     for event in events {
         all.push(event.as_slice())?;
@@ -60,6 +66,20 @@ fn around<'e>(
     all.push(place)?;
     all.push(commit)?;
     Ok(all)
+}
+
+/// A BEGIN as its bytes.
+fn begin_bytes() -> [u8; 2]
+    ensures { result ≡ written_event Begin }
+{
+    [8, 2]
+}
+
+/// A COMMIT as its bytes.
+fn commit_bytes() -> [u8; 2]
+    ensures { result ≡ written_event Commit }
+{
+    [8, 3]
 }
 
 /// Appends the message of a transaction's events and of the position behind it.
@@ -71,8 +91,7 @@ fn put_transaction(
 ) -> Result<(), AllocError>
     ensures { OnOk result (out.new.items ≡ out.old.items ++ transaction_bytes (map (λ e. e.items) events.now) place.now) }
 {
-    let begin = begin_event(alloc)?;
-    let commit = commit_event(alloc)?;
+    let (begin, commit) = (begin_bytes(), commit_bytes());
     let all = around(alloc, &begin, events, place, &commit)?;
     write_message(out, &all)
 }

@@ -4,8 +4,8 @@ use crate::logs::samples::LOG;
 use gtid_set::GtidSet;
 use log_course::{CourseError, CourseFault, LogGroups};
 use log_events::{CrcTable, EventFault, LogFault};
-use log_groups::GroupFault;
-use log_places::PlaceFault;
+use log_groups::{GroupFault, Gtid, MariaGtid, MysqlGtid};
+use log_places::{PlaceError, PlaceFault, position_behind};
 use std::alloc::{AllocError, Global};
 
 /// How many changes each group of a log has, the position behind the last one, and the fault that ends them.
@@ -77,5 +77,117 @@ fn files_that_dont_go_on(rt: HostRuntime) -> Result<(), AllocError> {
     assert!(rt; end == Some(CourseFault::Log(LogFault::NoLog)));
     assert!(rt; CourseFault::Log(LogFault::NoLog).number() == 140);
     assert!(rt; CourseFault::Place(PlaceFault::Elsewhere).number() == 159);
+    Ok(())
+}
+
+/// The position behind a transaction with this number of a domain of MariaDB, as its text.
+fn behind_maria(
+    alloc: Global,
+    reached: &str,
+    domain: u64,
+    sequence: u64,
+) -> Result<Result<String, PlaceFault>, AllocError> {
+    let gtid = MariaGtid {
+        sequence,
+        domain,
+        alone: false,
+        xid: None,
+    };
+    behind(alloc, reached, &Gtid::Maria(gtid))
+}
+
+/// The same of MySQL, where the uuid's bytes are all 1.
+fn behind_mysql(
+    alloc: Global,
+    reached: &str,
+    transaction: u64,
+) -> Result<Result<String, PlaceFault>, AllocError> {
+    let gtid = MysqlGtid {
+        uuid: &[1; 16],
+        transaction,
+    };
+    behind(alloc, reached, &Gtid::Mysql(gtid))
+}
+
+/// The position behind a transaction, as its text.
+fn behind(
+    alloc: Global,
+    reached: &str,
+    gtid: &Gtid<'_>,
+) -> Result<Result<String, PlaceFault>, AllocError> {
+    let Ok(reached) = GtidSet::parse(alloc, reached) else {
+        return Err(AllocError);
+    };
+    match position_behind(alloc, &reached, gtid) {
+        Ok(position) => {
+            let text = format!(in alloc; "{position}")?;
+            Ok(Ok(text))
+        }
+        Err(PlaceError::Memory) => Err(AllocError),
+        Err(PlaceError::Fault(fault)) => Ok(Err(fault)),
+    }
+}
+
+/// Whether a position is this one.
+fn is_text(position: Result<String, PlaceFault>, text: &str) -> bool {
+    match position {
+        Ok(position) => position.as_str() == text,
+        Err(_) => false,
+    }
+}
+
+/// Whether there is no position, for this fault.
+fn is_fault(position: Result<String, PlaceFault>, wanted: PlaceFault) -> bool {
+    match position {
+        Ok(_) => false,
+        Err(fault) => fault == wanted,
+    }
+}
+
+#[test]
+fn positions_behind_numbers_of_a_domain(rt: HostRuntime) -> Result<(), AllocError> {
+    let alloc = rt.alloc();
+    let (uuid, first) = (
+        "6d617269-6164-6200-8000-",
+        "6d617269-6164-6200-8000-000000000000:1",
+    );
+    let one = "6d617269-6164-6200-8000-000000000000:1-3";
+    // the first one, the one behind the last, one that leaves some out, and one of another domain
+    assert!(rt; is_text(behind_maria(alloc, "", 0, 1)?, first));
+    let next = format!(in alloc; "{uuid}000000000000:1-4")?;
+    assert!(rt; is_text(behind_maria(alloc, one, 0, 4)?, &next));
+    let far = format!(in alloc; "{uuid}000000000000:1-9")?;
+    assert!(rt; is_text(behind_maria(alloc, one, 0, 9)?, &far));
+    let both = format!(in alloc; "{uuid}000000000000:1-3,{uuid}000000000001:1-4")?;
+    assert!(rt; is_text(behind_maria(alloc, one, 1, 4)?, &both));
+    // one that comes behind some that aren't from the first on
+    assert!(rt;
+        is_text(
+            behind_maria(alloc, "6d617269-6164-6200-8000-000000000000:2-3", 0, 4)?,
+            &next
+        )
+    );
+    assert!(rt; is_fault(behind_maria(alloc, one, 0, 3)?, PlaceFault::GoesBack));
+    assert!(rt; is_fault(behind_maria(alloc, one, 0, 2)?, PlaceFault::GoesBack));
+    assert!(rt; is_fault(behind_maria(alloc, one, 0, 0)?, PlaceFault::NoNumber));
+    Ok(())
+}
+
+#[test]
+fn positions_behind_numbers_of_a_uuid(rt: HostRuntime) -> Result<(), AllocError> {
+    let alloc = rt.alloc();
+    let uuid = "01010101-0101-0101-0101-010101010101";
+    let some = format!(in alloc; "{uuid}:2-3:6")?;
+    // the one behind some, the one between others, one apart and one before
+    for (number, numbers) in [(4, "2-4:6"), (7, "2-3:6-7"), (9, "2-3:6:9"), (1, "1-3:6")] {
+        let wanted = format!(in alloc; "{uuid}:{numbers}")?;
+        assert!(rt; is_text(behind_mysql(alloc, &some, number)?, &wanted));
+    }
+    let joined = format!(in alloc; "{uuid}:2-6")?;
+    let nearly = format!(in alloc; "{uuid}:2-4:6")?;
+    assert!(rt; is_text(behind_mysql(alloc, &nearly, 5)?, &joined));
+    // one that is there, which is the one behind another
+    assert!(rt; is_fault(behind_mysql(alloc, &some, 3)?, PlaceFault::GoesBack));
+    assert!(rt; is_fault(behind_mysql(alloc, &some, 6)?, PlaceFault::GoesBack));
     Ok(())
 }

@@ -108,8 +108,47 @@ fn rows_of_a_server(rt: HostRuntime) -> Result<(), AllocError> {
 }
 
 #[test]
+fn rows_behind_others_of_the_table(rt: HostRuntime) -> Result<(), AllocError> {
+    let alloc = rt.alloc();
+    let crc = CrcTable::new(alloc)?;
+    let mut tables = Vec::new(alloc);
+    tables.push(table_of(alloc, "u", 6165)?)?;
+    tables.push(table_of(alloc, "t", 6165)?)?;
+    let mut stages = Vec::new(alloc);
+    stages.push(Stage::Absent)?;
+    stages.push(Stage::Absent)?;
+    let mut writer = GroupWriter::new(b"s", &tables, stages);
+    let Ok(mut log) = LogGroups::open(alloc, &crc, GtidSet::new(), Vec::new(alloc), &LOG) else {
+        return Err(AllocError);
+    };
+    // a database is made, the table is made, and it has rows
+    let mut events = Vec::new(alloc);
+    let mut changes = Vec::new(alloc);
+    for _ in 0..3 {
+        let Ok(Some(group)) = log.next_group(alloc) else {
+            return Err(AllocError);
+        };
+        changes = group.changes;
+        let Ok(told) = writer.events_of(alloc, &changes) else {
+            return Err(AllocError);
+        };
+        events = told;
+    }
+    assert!(rt; events.len() == 2 && events[1].as_slice() == ROW.as_slice());
+    // the same rows once more, by the writer that told them
+    let Ok(again) = writer.events_of(alloc, &changes) else {
+        return Err(AllocError);
+    };
+    assert!(rt; again.len() == 1 && again[0].as_slice() == ROW.as_slice());
+    Ok(())
+}
+
+#[test]
 fn tables_that_arent_told(rt: HostRuntime) -> Result<(), AllocError> {
     let (events, trouble) = told_of(rt.alloc(), b"s", "u", 6165, Stage::Absent)?;
+    assert!(rt; trouble == None && events.is_empty());
+    // a name that ends as the table's does
+    let (events, trouble) = told_of(rt.alloc(), b"s", "at", 6165, Stage::Absent)?;
     assert!(rt; trouble == None && events.is_empty());
     let (events, trouble) = told_of(rt.alloc(), b"other", "t", 6165, Stage::Absent)?;
     assert!(rt; trouble == None && events.is_empty());

@@ -1,0 +1,2 @@
+-- What serves the code alone, and no public contract.
+pub mod Next
