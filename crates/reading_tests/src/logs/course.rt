@@ -103,7 +103,7 @@ fn behind_mysql(
     transaction: u64,
 ) -> Result<Result<String, PlaceFault>, AllocError> {
     let gtid = MysqlGtid {
-        uuid: &[1; 16],
+        uuid: b"\x01\x01\x01\x01\x01\x01\x01\x01\x01\x01\x01\x01\x01\x01\x01\x01",
         transaction,
     };
     behind(alloc, reached, &Gtid::Mysql(gtid))
@@ -153,7 +153,9 @@ fn positions_behind_numbers_of_a_domain(rt: HostRuntime) -> Result<(), AllocErro
     );
     let one = "6d617269-6164-6200-8000-000000000000:1-3";
     // the first one, the one behind the last, one that leaves some out, and one of another domain
-    assert!(rt; is_text(behind_maria(alloc, "", 0, 1)?, first));
+    let other = "6d617269-6164-6200-8000-000000000001:1-4";
+    let both_first = format!(in alloc; "{first},{other}")?;
+    assert!(rt; is_text(behind_maria(alloc, other, 0, 1)?, &both_first));
     let next = format!(in alloc; "{uuid}000000000000:1-4")?;
     assert!(rt; is_text(behind_maria(alloc, one, 0, 4)?, &next));
     let far = format!(in alloc; "{uuid}000000000000:1-9")?;
@@ -179,14 +181,18 @@ fn positions_behind_numbers_of_a_uuid(rt: HostRuntime) -> Result<(), AllocError>
     let uuid = "01010101-0101-0101-0101-010101010101";
     let some = format!(in alloc; "{uuid}:2-3:6")?;
     // the one behind some, the one between others, one apart and one before
-    for (number, numbers) in [(4, "2-4:6"), (7, "2-3:6-7"), (9, "2-3:6:9"), (1, "1-3:6")] {
-        let wanted = format!(in alloc; "{uuid}:{numbers}")?;
-        assert!(rt; is_text(behind_mysql(alloc, &some, number)?, &wanted));
-    }
+    let wanted = format!(in alloc; "{uuid}:2-4:6")?;
+    assert!(rt; is_text(behind_mysql(alloc, &some, 4)?, &wanted));
+    let wanted = format!(in alloc; "{uuid}:2-3:6-7")?;
+    assert!(rt; is_text(behind_mysql(alloc, &some, 7)?, &wanted));
+    let wanted = format!(in alloc; "{uuid}:2-3:6:9")?;
+    assert!(rt; is_text(behind_mysql(alloc, &some, 9)?, &wanted));
+    let wanted = format!(in alloc; "{uuid}:1-3:6")?;
+    assert!(rt; is_text(behind_mysql(alloc, &some, 1)?, &wanted));
     let joined = format!(in alloc; "{uuid}:2-6")?;
     let nearly = format!(in alloc; "{uuid}:2-4:6")?;
     assert!(rt; is_text(behind_mysql(alloc, &nearly, 5)?, &joined));
-    // one that is there, which is the one behind another
+    // ones that are there
     assert!(rt; is_fault(behind_mysql(alloc, &some, 3)?, PlaceFault::GoesBack));
     assert!(rt; is_fault(behind_mysql(alloc, &some, 6)?, PlaceFault::GoesBack));
     Ok(())
