@@ -1,3 +1,4 @@
 mod AskedLaws
+mod WantingLaws
 mod EndLaws
 mod LimitLaws

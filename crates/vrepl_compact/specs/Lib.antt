@@ -3,3 +3,4 @@ pub mod Compacted
 pub mod Private
 pub mod Refusals
 pub mod Told
+pub mod Wanting

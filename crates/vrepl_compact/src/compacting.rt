@@ -1,15 +1,15 @@
 //! The command `compact`.
 
-ghost use Rattle.std.specs.Prelude.{◌≡◌, ◌⊎◌, ℕ, List, Err, IfErr, IfOk, IfSome, IsOk, Ok, length, map};
+ghost use Rattle.std.specs.Prelude.{◌≡◌, ℕ, List, Some, Err, IfErr, IfOk, IfSome, Ok, length, map, slice_get};
 ghost use Rattle.std.specs.String.{string_bytes};
 ghost use Rattle.std.specs.Arc.{arc_value};
-ghost use Rattle.source_feed.specs.Planned.{groups_under, source_of};
-ghost use Rattle.source_feed.specs.TakesMemory.{WantsMemory};
+ghost use Rattle.source_feed.specs.Planned.{groups_under};
 ghost use Rattle.source_feed.specs.Touches.{group_at};
 ghost use Rattle.vrepl_compact.specs.Asked.{asked_as, asked_in, asked_of, compact_asked};
 ghost use Rattle.vrepl_compact.specs.Compacted.{CompactEnds, IsCompacted, IsPrinted, IsTold, RefusesCompact};
 ghost use Rattle.vrepl_compact.specs.Private.Faults.{IsGivenWhere, IsOfFeed};
 ghost use Rattle.vrepl_compact.specs.Told.{groups_text, sizes_text, told_line};
+ghost use Rattle.vrepl_compact.specs.Wanting.{MayWantMemory};
 ghost use Rattle.vrepl_compact.specs.declared.refusal.Uncompacted.TheVariants.{Given};
 ghost use Rattle.vrepl_main.specs.Given.{given_value};
 ghost use Rattle.vrepl_main.specs.declared.refusal.CommandRefusal.TheVariants.{Memory};
@@ -99,6 +99,8 @@ pub fn compacted<'f, M: Meter>(
     ensures compacted { IfOk result (λ c. IsCompacted inputs.now (asked_in inputs.now (map arc_value planned.now.plans.items) (given_value planned.now.given)) c.made.groups c.made.rows c.made.feed) }
     ensures told { IfOk result (λ c. IsTold (asked_in inputs.now (map arc_value planned.now.plans.items) (given_value planned.now.given)) c.made.groups c.made.rows (length c.made.feed) (string_bytes c.line)) }
     ensures refused { IfErr result (λ uncompacted. RefusesCompact inputs.now uncompacted (asked_in inputs.now (map arc_value planned.now.plans.items) (given_value planned.now.given))) }
+    // Want of memory hides neither 115 nor 93, nor the feed's own fault beyond what its opening wants.
+    ensures memory { result ≡ Err (Given Memory) → MayWantMemory (slice_get (map arc_value planned.now.plans.items) inputs.now.stream) (given_value planned.now.given) }
 {
     let plan = plan_of(&planned.plans, inputs.stream)?;
     let new = compacted_as(alloc, inputs, &planned.plans, plan, &planned.given, meter)?;
@@ -117,6 +119,7 @@ fn compacted_as<'f, M: Meter>(
     ensures compacted { IfOk result (λ c. IsCompacted inputs.now (asked_as (map arc_value plans.now) (given_value given.now) (arc_value plan.now)) c.made.groups c.made.rows c.made.feed) }
     ensures told { IfOk result (λ c. IsTold (asked_as (map arc_value plans.now) (given_value given.now) (arc_value plan.now)) c.made.groups c.made.rows (length c.made.feed) (string_bytes c.line)) }
     ensures refused { IfErr result (λ uncompacted. RefusesCompact inputs.now uncompacted (asked_as (map arc_value plans.now) (given_value given.now) (arc_value plan.now))) }
+    ensures memory { result ≡ Err (Given Memory) → MayWantMemory (Some (arc_value plan.now)) (given_value given.now) }
 {
     match given.bytes() {
         None => Err(Uncompacted::Given(CommandRefusal::BadHex)),
@@ -136,8 +139,7 @@ fn compacted_of<'h, M: Meter>(
     ensures compacted { IfOk result (λ c. IsCompacted inputs.now (asked_of (map arc_value plans.now) (arc_value plan.now) bytes.now) c.made.groups c.made.rows c.made.feed) }
     ensures told { IfOk result (λ c. IsTold (asked_of (map arc_value plans.now) (arc_value plan.now) bytes.now) c.made.groups c.made.rows (length c.made.feed) (string_bytes c.line)) }
     ensures refused { IfErr result (λ uncompacted. RefusesCompact inputs.now uncompacted (asked_of (map arc_value plans.now) (arc_value plan.now) bytes.now)) }
-    // Memory is wanted as `Feed::open` wants it, and else of a feed that opens.
-    ensures memory { result ≡ Err (Given Memory) → WantsMemory bytes.now (source_of (arc_value plan.now)) ⊎ IsOk (groups_under bytes.now (arc_value plan.now)) }
+    ensures memory { result ≡ Err (Given Memory) → MayWantMemory (Some (arc_value plan.now)) (Some bytes.now) }
 {
     let feed = open_feed(alloc, bytes, plan)?;
     let plan = Arc::clone(plan)?;

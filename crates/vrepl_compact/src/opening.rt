@@ -1,18 +1,19 @@
 //! The workflow and the feed of a stream, as they are given.
 
-ghost use Rattle.std.specs.Prelude.{◌≡◌, ◌⊎◌, Err, IfErr, IfOk, IsOk, Ok, map, slice_get};
+ghost use Rattle.std.specs.Prelude.{◌≡◌, Some, Err, IfErr, IfOk, IsErr, Ok, map, slice_get};
 ghost use Rattle.std.specs.Option.{option_copied};
 ghost use Rattle.std.specs.Arc.{arc_value};
-ghost use Rattle.filter_rule.specs.Reading.{plans_of};
-ghost use Rattle.source_feed.specs.Planned.{groups_under, source_of};
-ghost use Rattle.source_feed.specs.TakesMemory.{WantsMemory};
+ghost use Rattle.filter_rule.specs.Reading.{IsSomeText, plans_of};
+ghost use Rattle.source_feed.specs.Planned.{groups_under};
 ghost use Rattle.vrepl_compact.specs.Asked.{asked_in, compact_asked, plan_or_none};
 ghost use Rattle.vrepl_compact.specs.Compacted.{RefusesCompact};
+ghost use Rattle.vrepl_compact.specs.Wanting.{MayWantMemory};
+ghost use Rattle.vrepl_compact.specs.declared.refusal.Uncompacted.TheVariants.{Given};
 ghost use Rattle.vrepl_main.specs.Given.{given_value};
 ghost use Rattle.vrepl_main.specs.HexText.{feed_bytes, hex_bytes};
 ghost use Rattle.vrepl_main.specs.Opening.{feed_under, said_plans};
 ghost use Rattle.vrepl_main.specs.Reasons.{GivesOfInputs, RefusesInputs};
-ghost use Rattle.vrepl_main.specs.declared.refusal.CommandRefusal.TheVariants.{Memory};
+ghost use Rattle.vrepl_main.specs.declared.refusal.CommandRefusal.TheVariants.{Memory, NoStream};
 
 use crate::inputs::CompactInputs;
 use crate::refusal::Uncompacted;
@@ -40,6 +41,8 @@ pub fn planned<'f>(
     // What the inputs ask for is the feed of these plans and bytes.
     ensures planned { IfOk result (λ p. compact_asked inputs.entry.now ≡ asked_in inputs.entry.now (map arc_value p.plans.items) (given_value p.given)) }
     ensures refused { IfErr result (λ uncompacted. RefusesCompact inputs.entry.now uncompacted (compact_asked inputs.entry.now)) }
+    // Memory is wanted of a workflow alone that is a text in UTF-8 and not empty: of any other 51 is told.
+    ensures memory { result ≡ Err (Given Memory) → IsSomeText inputs.entry.now.workflow.items }
 {
     let plans = read_plans(alloc, &inputs.workflow)?;
     let given = given_feed(alloc, inputs.feed_form, &inputs.feed)?;
@@ -48,7 +51,8 @@ pub fn planned<'f>(
 
 /// The plans of a workflow file.
 fn read_plans(alloc: Global, workflow: &[u8]) -> Result<Vec<Arc<Plan>>, CommandRefusal<'static>>
-    ensures { GivesOfInputs (λ plans. map arc_value plans.items) result (said_plans (plans_of workflow.now)) }
+    ensures given { GivesOfInputs (λ plans. map arc_value plans.items) result (said_plans (plans_of workflow.now)) }
+    ensures memory { result ≡ Err Memory → IsSomeText workflow.now }
 {
     let plans = Plan::read_all(alloc, workflow)?;
     Ok(plans)
@@ -68,6 +72,8 @@ pub(crate) fn plan_of<'p>(
 ) -> Result<&'p Arc<Plan>, CommandRefusal<'static>>
     ensures plan { IfOk result (λ plan. plan_or_none (slice_get (map arc_value plans.entry.now) stream) ≡ Ok (arc_value plan.now)) }
     ensures refused { IfErr result (λ refusal. RefusesInputs refusal (plan_or_none (slice_get (map arc_value plans.entry.now) stream))) }
+    // It is told whatever memory there is.
+    ensures memory { IfErr result (λ refusal. refusal ≡ NoStream) }
 {
     match plan_at(plans, stream) {
         Some(plan) => Ok(plan),
@@ -75,13 +81,14 @@ pub(crate) fn plan_of<'p>(
     }
 }
 
-/// A feed that is given in some form. An error is want of memory.
+/// A feed that is given in some form. An error is want of memory, which is taken for hexadecimal text alone.
 fn given_feed<'f>(
     alloc: Global,
     form: FeedForm,
     feed: &'f [u8],
 ) -> Result<GivenFeed<'f>, AllocError>
-    ensures { IfOk result (λ given. given_value given ≡ feed_bytes form feed.entry.now) }
+    ensures given { IfOk result (λ given. given_value given ≡ feed_bytes form feed.entry.now) }
+    ensures memory { IsErr result → form ≡ FeedForm.Hex }
 {
     match form {
         FeedForm::Bytes => Ok(GivenFeed::Bytes(feed)),
@@ -107,8 +114,7 @@ pub(crate) fn open_feed<'h>(
     plan: &Arc<Plan>,
 ) -> Result<Feed<'h>, CommandRefusal<'static>>
     ensures given { GivesOfInputs (λ feed. feed) result (feed_under (arc_value plan.now) (groups_under bytes.entry.now (arc_value plan.now))) }
-    // Memory is wanted as `Feed::open` wants it.
-    ensures memory { result ≡ Err Memory → WantsMemory bytes.entry.now (source_of (arc_value plan.now)) ⊎ IsOk (groups_under bytes.entry.now (arc_value plan.now)) }
+    ensures memory { result ≡ Err Memory → MayWantMemory (Some (arc_value plan.now)) (Some bytes.entry.now) }
 {
     let feed = Feed::open(alloc, bytes, plan)?;
     Ok(feed)

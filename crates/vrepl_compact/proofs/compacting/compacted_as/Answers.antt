@@ -14,3 +14,6 @@ returns-in-Some-clause-refused g c = rw (sym c.in-Some.ensures) c.compacted_of.e
 
 pub returns-in-Some-clause-told : goal.returns-in-Some-clause-told
 returns-in-Some-clause-told g c = rw (sym c.in-Some.ensures) c.compacted_of.ensures.told
+
+pub returns-in-Some-clause-memory : goal.returns-in-Some-clause-memory
+returns-in-Some-clause-memory g c = rw (sym c.in-Some.ensures) c.compacted_of.ensures.memory
