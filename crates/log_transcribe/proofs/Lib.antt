@@ -8,3 +8,4 @@ pub mod FurtherLaws
 pub mod StreamLaws
 pub mod WholeLaws
 pub mod SpoolLaws
+pub mod ByteLaws

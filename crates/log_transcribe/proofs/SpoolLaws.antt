@@ -79,7 +79,7 @@ logs_ended s IsRight all many stop.Unwritten old new count e = tt
 logs_ended s IsRight all many (stop.Unread at) old new count e = tt
 logs_ended s IsRight all many (stop.Feed fault) old new count e = tt
 logs_ended s IsRight all many (stop.Fault fault byte) old new count e =
-    logs_refused (feed_of_logs s all) fault (all_refused (λ logs. of_logs (feed_of_logs s logs)) IsRight all many (behind_fault.Logs fault) count e)
+    logs_refused (feed_of_logs s all) fault (all_refused (λ logs. of_logs (feed_of_logs s logs)) IsRight all many (behind_fault.Logs fault) count e.0)
 
 pub behind_ended : (define : List (List ℕ) → Result (List ℕ) BehindFault) (IsRight : List (List ℕ) → List ℕ → Type 0) (all : List (List ℕ)) (many : ℕ) (error : StreamError) (old new : Written) → many ≡ length all
     → EndsSo define IsRight (ItemsOf all) many (Err error) old new → Refuses behind_meant (behind_error_of error) (define all)
@@ -87,4 +87,4 @@ behind_ended define IsRight all many stop.Memory old new count e = tt
 behind_ended define IsRight all many stop.Unwritten old new count e = tt
 behind_ended define IsRight all many (stop.Unread at) old new count e = tt
 behind_ended define IsRight all many (stop.Feed fault) old new count e = all_refused define IsRight all many (behind_fault.Feed fault) count e
-behind_ended define IsRight all many (stop.Fault fault byte) old new count e = all_refused define IsRight all many (behind_fault.Logs fault) count e
+behind_ended define IsRight all many (stop.Fault fault byte) old new count e = all_refused define IsRight all many (behind_fault.Logs fault) count e.0

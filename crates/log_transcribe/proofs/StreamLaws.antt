@@ -158,7 +158,20 @@ unsent all rest far left fewer (stop.Fault fault byte) old new waits s = absurd 
 -- an error of what is told
 pub stopped : {X Y : Type 0} (all : Result X LogsFault) (view : Result Y LogsFault) (error : LogsError) (stops : StreamError) (old new : Written) → (((fault : LogsFault) → view ≡ Err fault → all ≡ Err fault)) → Refuses meant error view → IsOfLogs error stops → Stops all stops old new
 stopped all view logs_error.Memory stops old new same e is = rw is tt
-stopped all view (logs_error.Fault fault) stops old new same e is = rw is.1 (same fault e)
+stopped all view (logs_error.Fault fault) stop.Memory old new same e is = tt
+stopped all view (logs_error.Fault fault) stop.Unwritten old new same e is = absurd is
+stopped all view (logs_error.Fault fault) (stop.Unread at) old new same e is = absurd is
+stopped all view (logs_error.Fault fault) (stop.Feed other) old new same e is = absurd is
+stopped all view (logs_error.Fault fault) (stop.Fault other byte) old new same e is = rw is (same fault e)
+
+-- or of what may wait
+pub stilled : (all : Result (Unit {0}) LogsFault) (error : LogsError) (stops : StreamError) → Refuses meant error all → IsOfLogs error stops → Stills all (Err stops)
+stilled all logs_error.Memory stops e is = rw is tt
+stilled all (logs_error.Fault fault) stop.Memory e is = tt
+stilled all (logs_error.Fault fault) stop.Unwritten e is = absurd is
+stilled all (logs_error.Fault fault) (stop.Unread at) e is = absurd is
+stilled all (logs_error.Fault fault) (stop.Feed other) e is = absurd is
+stilled all (logs_error.Fault fault) (stop.Fault other byte) e is = rw is e
 
 pub stopped_put : {A : Type 0} (all : Result (Going A) LogsFault) (out : List ℕ) (error : LogsError) (stops : StreamError) (old new : Written) → Refuses meant error (with_messages all out) → IsOfLogs error stops → Stops all stops old new
 stopped_put all out error stops old new e is = stopped all (with_messages all out) error stops old new (λ fault h. fault_is all out fault h) e is

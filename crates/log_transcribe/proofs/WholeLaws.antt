@@ -30,7 +30,7 @@ use Rattle.log_transcribe.specs.Transcript.{feed_told, feed_of_logs}
 use Rattle.log_transcribe.specs.Private.Bytes.{bytes_told}
 use Rattle.log_transcribe.specs.Private.Goes.{SequelValue}
 use Rattle.log_transcribe.specs.Private.Opens.{HasFirst, Gave, IsFirst, IsOpened, OpensBehind, logs_from, place_behind, stop_of}
-use Rattle.log_transcribe.specs.Private.Sends.{AreUnread, IsOfLogs, TellsAll, counted}
+use Rattle.log_transcribe.specs.Private.Sends.{AreUnread, IsOfLogs, StopsAt, TellsAll, counted}
 use Rattle.log_transcribe.proofs.FeedLaws.{FeedLaws, feed_right}
 use Rattle.log_transcribe.proofs.FurtherLaws.{BehindLaws, further_right}
 use Rattle.log_transcribe.proofs.GoingLaws.{bytes-given, bytes-refused}
@@ -69,25 +69,31 @@ module _ (s : SourceTables) (Gives : ℕ → List ℕ → Type 0) (many : ℕ) w
         written = w.written;
       }
 
-  pub feed_too_long : (size : ℕ) (old new : Written) (byte : Option ℕ) → TellsAll (λ logs. feed_told s logs) Gives 0 many (Ok size) old new → 2 ^ 31 ≤ size → Ends (Err (stop.Fault (TooLong many) byte)) old new
-  feed_too_long size old new byte w long = record {
-    logs = w.logs;
-    gave = w.gave;
-    is = λ others both.
-        subst (λ (o : List (List ℕ)). of_logs (feed_of_logs s (w.logs ++ o)) ≡ Err (behind_fault.Logs (TooLong many))) (sym (no_others w.logs others 0 many w.all (omega (arith, both))))
-        (ap (λ (r : Result (List ℕ) LogsFault). of_logs r) (ap (feed_of_logs s) (append-nil w.logs) ∙ feed-long s w.logs many w.feed (omega (arith, w.all)) w.is (long_by (length w.feed) size (2 ^ 31) w.many_bytes long)));
-  }
+  pub feed_too_long : (size : ℕ) (old new : Written) → TellsAll (λ logs. feed_told s logs) Gives 0 many (Ok size) old new → 2 ^ 31 ≤ size → Ends (Err (stop.Fault (TooLong many) None)) old new
+  feed_too_long size old new w long = (
+    record {
+      logs = w.logs;
+      gave = w.gave;
+      is = λ others both.
+          subst (λ (o : List (List ℕ)). of_logs (feed_of_logs s (w.logs ++ o)) ≡ Err (behind_fault.Logs (TooLong many))) (sym (no_others w.logs others 0 many w.all (omega (arith, both))))
+          (ap (λ (r : Result (List ℕ) LogsFault). of_logs r) (ap (feed_of_logs s) (append-nil w.logs) ∙ feed-long s w.logs many w.feed (omega (arith, w.all)) w.is (long_by (length w.feed) size (2 ^ 31) w.many_bytes long)));
+    },
+    tt,
+  )
 
-  pub feed_stopped : (error : StreamError) (old new : Written) → TellsAll (λ logs. feed_told s logs) Gives 0 many (Err error) old new → Ends (Err error) old new
-  feed_stopped stop.Memory old new w = tt
-  feed_stopped stop.Unwritten old new w = w
-  feed_stopped (stop.Unread at) old new w = unread_at Gives many at w
-  feed_stopped (stop.Feed fault) old new w = absurd w
-  feed_stopped (stop.Fault fault byte) old new w = record {
-    logs = w.logs;
-    gave = w.gave;
-    is = λ others both. ap (λ (r : Result (List ℕ) LogsFault). of_logs r) (feed_unmade s (w.logs ++ others) fault (w.is others (omega (arith, both))));
-  }
+  pub feed_stopped : (error : StreamError) (old new : Written) → TellsAll (λ logs. feed_told s logs) Gives 0 many (Err error) old new → StopsAt Gives error → Ends (Err error) old new
+  feed_stopped stop.Memory old new w at = tt
+  feed_stopped stop.Unwritten old new w at = w
+  feed_stopped (stop.Unread file) old new w at = unread_at Gives many file w
+  feed_stopped (stop.Feed fault) old new w at = absurd w
+  feed_stopped (stop.Fault fault byte) old new w at = (
+    record {
+      logs = w.logs;
+      gave = w.gave;
+      is = λ others both. ap (λ (r : Result (List ℕ) LogsFault). of_logs r) (feed_unmade s (w.logs ++ others) fault (w.is others (omega (arith, both))));
+    },
+    at,
+  )
 
 -- ---- of logs behind a feed
 
@@ -148,20 +154,23 @@ module _ (s : SourceTables) (feed : List ℕ) (Gives : ℕ → List ℕ → Type
   refused_so None [] fault first within is (o ∷ others) both = absurd (omega (arith, first, both))
 
   -- the feed, or where the first log begins
-  pub first_stops : (log : Option LogBytes) (error : StreamError) (old : Written) → HasFirst many log → Gave Gives log → OpensBehind s feed log (Err error) → EndsBehind (Err error) old old
-  first_stops log stop.Memory old first gave e = tt
-  first_stops log stop.Unwritten old first gave e = absurd e
-  first_stops log (stop.Unread at) old first gave e = absurd e
-  first_stops log (stop.Feed fault) old first gave e = record {
+  pub first_stops : (log : Option LogBytes) (error : StreamError) (old : Written) → HasFirst many log → Gave Gives log → OpensBehind s feed log (Err error) → StopsAt Gives error → EndsBehind (Err error) old old
+  first_stops log stop.Memory old first gave e at = tt
+  first_stops log stop.Unwritten old first gave e at = absurd e
+  first_stops log (stop.Unread file) old first gave e at = absurd e
+  first_stops log (stop.Feed fault) old first gave e at = record {
     logs = logs_from log [];
     gave = gave_all log [] gave tt;
     is = refused_so log [] (behind_fault.Feed fault) first (none_within log first) (λ others both. e others);
   }
-  first_stops log (stop.Fault fault byte) old first gave e = record {
-    logs = logs_from log [];
-    gave = gave_all log [] gave tt;
-    is = refused_so log [] (behind_fault.Logs fault) first (none_within log first) (λ others both. e others);
-  }
+  first_stops log (stop.Fault fault byte) old first gave e at = (
+    record {
+      logs = logs_from log [];
+      gave = gave_all log [] gave tt;
+      is = refused_so log [] (behind_fault.Logs fault) first (none_within log first) (λ others both. e others);
+    },
+    at,
+  )
 
   module _ (log : Option LogBytes) (first : HasFirst many log) (gave : Gave Gives log) (q : SequelValue) (o : IsOpened s feed log q) where
     abbrev Tells : Result ℕ StreamError → Written → Written → Type 0
@@ -194,32 +203,37 @@ module _ (s : SourceTables) (feed : List ℕ) (Gives : ℕ → List ℕ → Type
     faulty : (logs : List (List ℕ)) (fault : LogsFault) → bytes_behind s feed o.had (along_of o.reached o.first o.had) (logs_from log logs) ≡ Err fault → behind_of_logs s feed (logs_from log logs) ≡ Err (behind_fault.Logs fault)
     faulty logs fault e = bytes-refused s feed (logs_from log logs) o.reached o.first o.had (logs_error.Fault fault) o.end (o.begins logs) o.said e
 
-    pub behind_too_long : (size : ℕ) (old new : Written) (byte : Option ℕ) → Tells (Ok size) old new → 2 ^ 31 - length feed ≤ size → EndsBehind (Err (stop.Fault (TooLong many) byte)) old new
-    behind_too_long size old new byte w long =
+    pub behind_too_long : (size : ℕ) (old new : Written) → Tells (Ok size) old new → 2 ^ 31 - length feed ≤ size → EndsBehind (Err (stop.Fault (TooLong many) None)) old new
+    behind_too_long size old new w long =
         let logs : List (List ℕ) = logs_from log w.logs in
         let told : bytes_told (behind_told s o.had (along_of o.reached o.first o.had) logs) ≡ Ok w.feed = ap (λ (r : Result (List (List EventValue)) LogsFault). bytes_told r) (sym (told_is logs)) ∙ w.is in
         let many_bytes : 2 ^ 31 - length feed ≤ length w.feed = long_by (length w.feed) size (2 ^ 31 - length feed) w.many_bytes long in
         let made : bytes_behind s feed o.had (along_of o.reached o.first o.had) logs ≡ Err (TooLong many) =
-        behind_long (behind_told s o.had (along_of o.reached o.first o.had) logs) (length logs) (length feed) w.feed told (omega (arith, many_bytes)) ∙ ap (λ (n : ℕ). Err (TooLong n)) (all_are log w.logs first w.all) in
-        record {
-          logs = logs;
-          gave = gave_all log w.logs gave w.gave;
-          is = refused_so log w.logs (behind_fault.Logs (TooLong many)) first (omega (arith, w.all))
-              (λ others both. subst (λ (o : List (List ℕ)). behind_of_logs s feed (logs_from log (w.logs ++ o)) ≡ Err (behind_fault.Logs (TooLong many))) (sym (no_others w.logs others (place_behind log) many w.all both))
-              (subst (λ (ls : List (List ℕ)). behind_of_logs s feed (logs_from log ls) ≡ Err (behind_fault.Logs (TooLong many))) (sym (append-nil w.logs)) (faulty w.logs (TooLong many) made)));
-        }
+        behind_long (behind_told s o.had (along_of o.reached o.first o.had) logs) (length logs) (length feed) w.feed told (omega (arith, many_bytes)) ∙ ap (λ (n : ℕ). Err (TooLong n)) (all_are log w.logs first w.all) in (
+          record {
+            logs = logs;
+            gave = gave_all log w.logs gave w.gave;
+            is = refused_so log w.logs (behind_fault.Logs (TooLong many)) first (omega (arith, w.all))
+                (λ others both. subst (λ (o : List (List ℕ)). behind_of_logs s feed (logs_from log (w.logs ++ o)) ≡ Err (behind_fault.Logs (TooLong many))) (sym (no_others w.logs others (place_behind log) many w.all both))
+                (subst (λ (ls : List (List ℕ)). behind_of_logs s feed (logs_from log ls) ≡ Err (behind_fault.Logs (TooLong many))) (sym (append-nil w.logs)) (faulty w.logs (TooLong many) made)));
+          },
+          tt,
+        )
 
-    pub behind_stopped : (error : StreamError) (old new : Written) → Tells (Err error) old new → EndsBehind (Err error) old new
-    behind_stopped stop.Memory old new w = tt
-    behind_stopped stop.Unwritten old new w = w
-    behind_stopped (stop.Unread at) old new w = unread_behind log at first gave w
-    behind_stopped (stop.Feed fault) old new w = absurd w
-    behind_stopped (stop.Fault fault byte) old new w = record {
-      logs = logs_from log w.logs;
-      gave = gave_all log w.logs gave w.gave;
-      is = refused_so log w.logs (behind_fault.Logs fault) first w.within
-          (λ others both. faulty (w.logs ++ others) fault (unmade o.had (along_of o.reached o.first o.had) (logs_from log (w.logs ++ others)) fault (sym (told_is (logs_from log (w.logs ++ others))) ∙ w.is others both)));
-    }
+    pub behind_stopped : (error : StreamError) (old new : Written) → Tells (Err error) old new → StopsAt Gives error → EndsBehind (Err error) old new
+    behind_stopped stop.Memory old new w at = tt
+    behind_stopped stop.Unwritten old new w at = w
+    behind_stopped (stop.Unread file) old new w at = unread_behind log file first gave w
+    behind_stopped (stop.Feed fault) old new w at = absurd w
+    behind_stopped (stop.Fault fault byte) old new w at = (
+      record {
+        logs = logs_from log w.logs;
+        gave = gave_all log w.logs gave w.gave;
+        is = refused_so log w.logs (behind_fault.Logs fault) first w.within
+            (λ others both. faulty (w.logs ++ others) fault (unmade o.had (along_of o.reached o.first o.had) (logs_from log (w.logs ++ others)) fault (sym (told_is (logs_from log (w.logs ++ others))) ∙ w.is others both)));
+      },
+      at,
+    )
 
 -- ---- what is wrong with the feed, or where the first log begins
 
@@ -230,7 +244,11 @@ module _ (s : SourceTables) (feed : List ℕ) (log : Option LogBytes) where
 
   pub logs_stop : (error : LogsError) (stops : StreamError) → IsOfLogs error stops → ((others : List (List ℕ)) → Refuses behind_meant (error_of error) (behind_of_logs s feed (logs_from log others))) → OpensBehind s feed log (Err stops)
   logs_stop logs_error.Memory stops is e = rw is tt
-  logs_stop (logs_error.Fault fault) stops is e = rw is.1 e
+  logs_stop (logs_error.Fault fault) stop.Memory is e = tt
+  logs_stop (logs_error.Fault fault) stop.Unwritten is e = absurd is
+  logs_stop (logs_error.Fault fault) (stop.Unread file) is e = absurd is
+  logs_stop (logs_error.Fault fault) (stop.Feed other) is e = absurd is
+  logs_stop (logs_error.Fault fault) (stop.Fault other byte) is e = rw is e
 
 -- where the logs begin the others have no part
 pub begun_same : (reached : List Interval) (log : Option LogBytes) (others : List (List ℕ)) → begun reached (logs_from log others) ≡ begun reached (logs_from log [])

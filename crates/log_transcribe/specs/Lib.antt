@@ -6,5 +6,6 @@ pub mod Apart
 pub mod Behind
 pub mod Further
 pub mod Files
+pub mod Byte
 pub mod Streamed
 pub mod Private

@@ -4,3 +4,4 @@ pub mod Sees
 pub mod Goes
 pub mod Sends
 pub mod Opens
+pub mod Cuts

@@ -5,6 +5,7 @@ use Rattle.log_transcribe.specs.declared.fault.BehindFault.{BehindFault}
 use Rattle.log_transcribe.specs.declared.fault.BehindFault.TheVariants.{Feed, Logs}
 use Rattle.log_transcribe.specs.declared.fault.StreamError.{StreamError}
 use Rattle.log_transcribe.specs.declared.fault.StreamError.TheVariants as stop
+use Rattle.log_transcribe.specs.Byte.{IsByteOf}
 use Rattle.log_transcribe.specs.Files.{GaveFrom}
 
 -- All so many files gave bytes, and just the feed that a definition makes of these was written.
@@ -30,12 +31,12 @@ pub record IsUnreadAt (Gives : ℕ → List ℕ → Type 0) (many file : ℕ) : 
   pub gave : GaveFrom Gives 0 logs
   pub before : length logs ≡ file
 
--- All was told; or it says why not: the first fault of the definition; a file that can't be read; a write that failed; or want
--- of memory.
+-- All was told; or it says why not: the first fault of the definition, and at which byte of its file it stands, if it does at
+-- one; a file that can't be read; a write that failed; or want of memory.
 abbrev pub EndsSo : (List (List ℕ) → Result (List ℕ) BehindFault) → (List (List ℕ) → List ℕ → Type 0) → (ℕ → List ℕ → Type 0) → ℕ → Result (Unit {0}) StreamError → Written → Written → Type 0
 EndsSo of_logs IsRight Gives many (Ok x) old new = IsTold of_logs IsRight Gives many old new
 EndsSo of_logs IsRight Gives many (Err stop.Memory) old new = Unit {0}
 EndsSo of_logs IsRight Gives many (Err stop.Unwritten) old new = (text : List ℕ) × BreaksOff old new text
 EndsSo of_logs IsRight Gives many (Err (stop.Unread file)) old new = IsUnreadAt Gives many file
 EndsSo of_logs IsRight Gives many (Err (stop.Feed fault)) old new = IsRefused of_logs Gives many (Feed fault)
-EndsSo of_logs IsRight Gives many (Err (stop.Fault fault byte)) old new = IsRefused of_logs Gives many (Logs fault)
+EndsSo of_logs IsRight Gives many (Err (stop.Fault fault byte)) old new = IsRefused of_logs Gives many (Logs fault) × IsByteOf Gives fault byte

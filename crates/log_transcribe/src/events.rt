@@ -11,13 +11,18 @@ fn size_at(bytes: &[u8], place: usize) -> usize {
     number_at(bytes, place.saturating_add(9), Size::Four) as usize
 }
 
+/// The place behind the event at a place.
+pub(crate) fn behind_event(bytes: &[u8], place: usize) -> usize {
+    place.saturating_add(size_at(bytes, place))
+}
+
 /// The place behind the event at a place, if that is before the end.
 fn next_within(bytes: &[u8], place: usize, end: usize) -> Option<usize> {
     let size = size_at(bytes, place);
     if size < HEAD || end.saturating_sub(place) <= size {
         None
     } else {
-        Some(place.saturating_add(size))
+        Some(behind_event(bytes, place))
     }
 }
 
@@ -63,5 +68,5 @@ pub(crate) fn first_of_transaction(bytes: &[u8], place: usize) -> usize {
 
 /// The place behind a file's format description.
 pub(crate) fn behind_description(bytes: &[u8]) -> usize {
-    size_at(bytes, 4).saturating_add(4)
+    behind_event(bytes, 4)
 }

@@ -10,8 +10,8 @@ ghost use Rattle.log_transcribe.specs.Behind.{listed_first, first_list, begun_by
 ghost use Rattle.log_transcribe.specs.Further.{IsFeedBehind};
 ghost use Rattle.log_transcribe.specs.Streamed.{EndsSo};
 ghost use Rattle.log_transcribe.specs.Files.{log_bytes};
-ghost use Rattle.log_transcribe.specs.Private.Opens.{HasFirst, IsFirst, OpensBehind, logs_from, place_behind, stop_of};
-ghost use Rattle.log_transcribe.specs.Private.Sends.{IsOfLogs, PutsFiles, PutsSpan, TellsAll, behind_error_of, sending};
+ghost use Rattle.log_transcribe.specs.Private.Opens.{HasFirst, IsFirst, OfFirst, OpensBehind, OrFirst, logs_from, place_behind, stop_of};
+ghost use Rattle.log_transcribe.specs.Private.Sends.{IsOfLogs, OrFile, PutsFiles, PutsSpan, StopsAt, TellsAll, TellsByte, behind_error_of, sending};
 
 use crate::fault::{BehindError, BehindFault, LogsError, LogsFault, StreamError};
 use crate::files::{LentLogs, LogBytes, LogFiles, ReadFault};
@@ -120,11 +120,17 @@ fn of_feed(fault: FeedFault) -> StreamError
 }
 
 /// What is wrong where the first log begins, if there is one.
-fn of_first(log: &Option<LogBytes<'_>>, error: LogsError) -> StreamError
-    ensures { IsOfLogs error result }
+fn of_first(
+    alloc: Global,
+    table: &CrcTable,
+    log: &Option<LogBytes<'_>>,
+    error: LogsError,
+) -> StreamError
+    ensures error { IsOfLogs error result }
+    ensures byte { StopsAt (OfFirst log.now) result }
 {
     match log {
-        Some(log) => at_begin(log.as_slice(), error),
+        Some(log) => at_begin(alloc, table, 0, log.as_slice(), error),
         None => nowhere(error),
     }
 }
@@ -151,7 +157,8 @@ fn opened_behind<'t, 'w>(
     feed: &[u8],
     log: &Option<LogBytes<'_>>,
 ) -> Result<Sequel<'t, 'w>, StreamError>
-    ensures { OpensBehind (source_value source.entry) feed.now log.now result }
+    ensures opens { OpensBehind (source_value source.entry) feed.now log.now result }
+    ensures byte { TellsByte (OfFirst log.now) result }
 {
     let reached = match end_of(alloc, source, feed) {
         Ok(reached) => reached,
@@ -159,7 +166,7 @@ fn opened_behind<'t, 'w>(
     };
     let first = match begun(alloc, table, &reached, log) {
         Ok(first) => first,
-        Err(error) => return Err(of_first(log, error)),
+        Err(error) => return Err(of_first(alloc, table, log, error)),
     };
     // (for their contracts: what is true of every set)
     reached.intervals();
@@ -184,6 +191,7 @@ fn send_all<L: LogFiles, W: Out>(
 ) -> Result<(), StreamError>
     requires { HasFirst (L.many files.now) log }
     ensures told { PutsFiles (λ others. logs_behind 0 sequel.old.source sequel.old.had [] (logs_from log.entry others) sequel.old.along) (L.gives files.now) (place_behind log.entry) (L.many files.now) sequel.new.along result (sending (W.written out.old) outgoing.old) (sending (W.written out.new) outgoing.new) }
+    ensures byte { TellsByte (OrFirst log.entry (L.gives files.now)) result }
     ensures source { sequel.new.source ≡ sequel.old.source }
     ensures had { sequel.new.had ≡ sequel.old.had }
 {
@@ -208,6 +216,7 @@ fn send_first<L: LogFiles, W: Out>(
 ) -> Result<usize, StreamError>
     requires { 1 ≤ L.many files.now }
     ensures told { PutsSpan (λ others. logs_behind 0 sequel.old.source sequel.old.had [] (log_bytes log.entry ∷ others) sequel.old.along) (λ at left logs along. logs_behind at sequel.old.source sequel.old.had left logs along) (L.gives files.now) 1 (L.many files.now) sequel.new.along result (sending (W.written out.old) outgoing.old) (sending (W.written out.new) outgoing.new) }
+    ensures byte { TellsByte (OrFile 0 (log_bytes log.entry) (L.gives files.now)) result }
     ensures within { IfOk result (λ next. next ≤ L.many files.now) }
     ensures source { sequel.new.source ≡ sequel.old.source }
     ensures had { sequel.new.had ≡ sequel.old.had }
@@ -235,7 +244,8 @@ fn told_behind<L: LogFiles, W: Out>(
     log: Option<LogBytes<'_>>,
 ) -> Result<usize, StreamError>
     requires { HasFirst (L.many files.now) log }
-    ensures { TellsAll (λ others. behind_told sequel.entry.source sequel.entry.had sequel.entry.along (logs_from log.entry others)) (L.gives files.now) (place_behind log.entry) (L.many files.now) result (W.written out.old) (W.written out.new) }
+    ensures told { TellsAll (λ others. behind_told sequel.entry.source sequel.entry.had sequel.entry.along (logs_from log.entry others)) (L.gives files.now) (place_behind log.entry) (L.many files.now) result (W.written out.old) (W.written out.new) }
+    ensures byte { TellsByte (OrFirst log.entry (L.gives files.now)) result }
 {
     let mut sequel = sequel;
     let mut outgoing = Outgoing::new(alloc);

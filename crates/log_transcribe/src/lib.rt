@@ -3,6 +3,7 @@
 
 mod apart;
 mod behind;
+mod byte;
 mod events;
 mod fault;
 mod files;

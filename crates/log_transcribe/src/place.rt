@@ -1,13 +1,15 @@
 //! Where in its file a fault stands: the first byte of the event that is at fault, or of the transaction that can't be told.
 
-ghost use Rattle.log_transcribe.specs.Private.Sends.{IsOfLogs};
+ghost use Rattle.log_transcribe.specs.Private.Sends.{IsOfLogs, NoFile, OneFile, StopsAt};
 
+use crate::byte::told_at;
 use crate::events::{behind_description, first_of_transaction, last_before};
 use crate::fault::{LogsError, LogsFault, StreamError};
 use log_course::{CourseFault, LogGroups};
-use log_events::LogFault;
+use log_events::{CrcTable, LogFault};
 use log_groups::GroupFault;
 use log_laws::TellFault;
+use std::alloc::Global;
 
 /// How many bytes of a file are read.
 pub(crate) fn bytes_read(bytes: &[u8], groups: &LogGroups<'_, '_>) -> usize {
@@ -48,16 +50,26 @@ fn place_of(bytes: &[u8], begin: usize, end: usize, fault: LogsFault) -> Option<
 }
 
 /// What is wrong with a file that isn't begun with.
-pub(crate) fn at_begin(bytes: &[u8], error: LogsError) -> StreamError
-    ensures { IsOfLogs error result }
+pub(crate) fn at_begin(
+    alloc: Global,
+    table: &CrcTable,
+    file: usize,
+    bytes: &[u8],
+    error: LogsError,
+) -> StreamError
+    ensures error { IsOfLogs error result }
+    ensures byte { StopsAt (OneFile file bytes.now) result }
 {
     match error {
         LogsError::Memory => StreamError::Memory,
-        LogsError::Fault(fault) => StreamError::Fault(fault, byte_at_begin(bytes, fault)),
+        LogsError::Fault(fault) => {
+            let byte = byte_at_begin(bytes, fault);
+            told_at(alloc, table, file, bytes, fault, byte)
+        }
     }
 }
 
-/// The byte of it.
+/// Where it may be.
 fn byte_at_begin(bytes: &[u8], fault: LogsFault) -> Option<usize> {
     match fault {
         LogsFault::Course(_, fault) => Some(place_at_begin(bytes, fault)),
@@ -66,28 +78,49 @@ fn byte_at_begin(bytes: &[u8], fault: LogsFault) -> Option<usize> {
 }
 
 /// What is wrong with a file's transaction behind the byte `begin`, up to `end`.
-pub(crate) fn inside(bytes: &[u8], begin: usize, end: usize, error: LogsError) -> StreamError
-    ensures { IsOfLogs error result }
+pub(crate) fn inside(
+    alloc: Global,
+    table: &CrcTable,
+    file: usize,
+    bytes: &[u8],
+    begin: usize,
+    end: usize,
+    error: LogsError,
+) -> StreamError
+    ensures error { IsOfLogs error result }
+    ensures byte { StopsAt (OneFile file bytes.now) result }
 {
     match error {
         LogsError::Memory => StreamError::Memory,
-        LogsError::Fault(fault) => { StreamError::Fault(fault, place_of(bytes, begin, end, fault)) }
+        LogsError::Fault(fault) => {
+            let byte = place_of(bytes, begin, end, fault);
+            told_at(alloc, table, file, bytes, fault, byte)
+        }
     }
 }
 
 /// What is wrong where a file ends, of which so many bytes were read.
-pub(crate) fn at_end(read: usize, error: LogsError) -> StreamError
-    ensures { IsOfLogs error result }
+pub(crate) fn at_end(
+    alloc: Global,
+    table: &CrcTable,
+    file: usize,
+    bytes: &[u8],
+    read: usize,
+    error: LogsError,
+) -> StreamError
+    ensures error { IsOfLogs error result }
+    ensures byte { StopsAt (OneFile file bytes.now) result }
 {
     match error {
         LogsError::Memory => StreamError::Memory,
-        LogsError::Fault(fault) => StreamError::Fault(fault, Some(read)),
+        LogsError::Fault(fault) => told_at(alloc, table, file, bytes, fault, Some(read)),
     }
 }
 
 /// What is wrong with no event.
 pub(crate) fn nowhere(error: LogsError) -> StreamError
-    ensures { IsOfLogs error result }
+    ensures error { IsOfLogs error result }
+    ensures byte { StopsAt NoFile result }
 {
     match error {
         LogsError::Memory => StreamError::Memory,

@@ -9,7 +9,7 @@ ghost use Rattle.log_transcribe.specs.Transcript.{source_value};
 ghost use Rattle.log_transcribe.specs.Behind.{group_behind, log_behind, logs_behind, along_of};
 ghost use Rattle.log_transcribe.specs.Private.Bytes.{KeepsWaiting};
 ghost use Rattle.log_transcribe.specs.Private.Goes.{with_going, reading_behind, GoesNext};
-ghost use Rattle.log_transcribe.specs.Private.Sends.{Puts, PutsFiles, PutsLog, PutsOne, PutsSpan, sending};
+ghost use Rattle.log_transcribe.specs.Private.Sends.{OneFile, OrFile, Puts, PutsFiles, PutsLog, PutsOne, PutsSpan, TellsByte, sending};
 
 use crate::fault::{LogsError, StreamError};
 use crate::files::{LogFiles, ReadFault};
@@ -107,11 +107,13 @@ impl<'t, 'w> Sequel<'t, 'w> {
         alloc: Global,
         out: &mut W,
         outgoing: &mut Outgoing,
+        table: &CrcTable,
         file: usize,
         bytes: &[u8],
         groups: &mut LogGroups<'_, '_>,
     ) -> Result<bool, StreamError>
         ensures told { PutsOne (reading_behind file self.old.source self.old.had groups.old.groups self.old.along) (reading_behind file self.old.source self.old.had groups.new.groups self.new.along) self.new.along (length groups.old.groups.items) (length groups.new.groups.items) result (sending (W.written out.old) outgoing.old) (sending (W.written out.new) outgoing.new) }
+        ensures byte { TellsByte (OneFile file bytes.now) result }
         ensures waiting { KeepsWaiting groups.old result groups.new }
         ensures source { self.new.source ≡ self.old.source }
         ensures had { self.new.had ≡ self.old.had }
@@ -119,7 +121,10 @@ impl<'t, 'w> Sequel<'t, 'w> {
         let begin = bytes_read(bytes, groups);
         let more = match self.put_next(alloc, &mut outgoing.waits, file, groups) {
             Ok(more) => more,
-            Err(error) => return Err(inside(bytes, begin, bytes_read(bytes, groups), error)),
+            Err(error) => {
+                let end = bytes_read(bytes, groups);
+                return Err(inside(alloc, table, file, bytes, begin, end, error));
+            }
         };
         match outgoing.send_portion(out) {
             Ok(()) => Ok(more),
@@ -133,18 +138,20 @@ impl<'t, 'w> Sequel<'t, 'w> {
         alloc: Global,
         out: &mut W,
         outgoing: &mut Outgoing,
+        table: &CrcTable,
         file: usize,
         bytes: &[u8],
         groups: LogGroups<'_, 'b>,
     ) -> Result<LogEnd<'b>, StreamError>
         ensures told { Puts (reading_behind file self.old.source self.old.had groups.entry.groups self.old.along) self.new.along result (sending (W.written out.old) outgoing.old) (sending (W.written out.new) outgoing.new) }
+        ensures byte { TellsByte (OneFile file bytes.now) result }
         ensures waiting { IfOk result (λ end. map waiting_value end.waiting.items ≡ groups.entry.waiting) }
         ensures source { self.new.source ≡ self.old.source }
         ensures had { self.new.had ≡ self.old.had }
     {
         let mut groups = groups;
         loop {
-            match self.send_next(alloc, out, outgoing, file, bytes, &mut groups) {
+            match self.send_next(alloc, out, outgoing, table, file, bytes, &mut groups) {
                 Ok(more) => {
                     if !more {
                         let read = bytes_read(bytes, &groups);
@@ -171,13 +178,14 @@ impl<'t, 'w> Sequel<'t, 'w> {
         bytes: &'b [u8],
     ) -> Result<LogEnd<'b>, StreamError>
         ensures told { PutsLog (log_behind file self.old.source self.old.had (map waiting_value waiting.entry.items) bytes.now self.old.along) (λ end. map waiting_value end.waiting.items) self.new.along result (sending (W.written out.old) outgoing.old) (sending (W.written out.new) outgoing.new) }
+        ensures byte { TellsByte (OneFile file bytes.now) result }
         ensures source { self.new.source ≡ self.old.source }
         ensures had { self.new.had ≡ self.old.had }
     {
         let reached = copy_of(alloc, &self.logs)?;
         match LogGroups::open(alloc, table, reached, waiting, bytes) {
-            Ok(groups) => self.send_groups(alloc, out, outgoing, file, bytes, groups),
-            Err(error) => Err(at_begin(bytes, of_course(file, error))),
+            Ok(groups) => self.send_groups(alloc, out, outgoing, table, file, bytes, groups),
+            Err(error) => Err(at_begin(alloc, table, file, bytes, of_course(file, error))),
         }
     }
 
@@ -197,6 +205,7 @@ impl<'t, 'w> Sequel<'t, 'w> {
     ) -> Result<usize, StreamError>
         requires { file < L.many files.now }
         ensures told { PutsSpan (λ logs. logs_behind file self.old.source self.old.had (map waiting_value waiting.entry.items) (bytes.now ∷ logs) self.old.along) (λ at left logs along. logs_behind at self.old.source self.old.had left logs along) (L.gives files.now) (file + 1) (L.many files.now) self.new.along result (sending (W.written out.old) outgoing.old) (sending (W.written out.new) outgoing.new) }
+        ensures byte { TellsByte (OrFile file bytes.now (L.gives files.now)) result }
         ensures more { IfOk result (λ next. file < next) }
         ensures within { IfOk result (λ next. next ≤ L.many files.now) }
         ensures source { self.new.source ≡ self.old.source }
@@ -214,7 +223,7 @@ impl<'t, 'w> Sequel<'t, 'w> {
         if next < count {
             return self.send_file(alloc, out, outgoing, table, files, next, end.waiting);
         }
-        match end.settle(next) {
+        match end.settle(alloc, table, file, bytes, next) {
             Ok(()) => Ok(next),
             Err(error) => Err(error),
         }
@@ -234,6 +243,7 @@ impl<'t, 'w> Sequel<'t, 'w> {
     ) -> Result<usize, StreamError>
         requires { file < L.many files.now }
         ensures told { PutsSpan (λ logs. logs_behind file self.old.source self.old.had (map waiting_value waiting.entry.items) logs self.old.along) (λ at left logs along. logs_behind at self.old.source self.old.had left logs along) (L.gives files.now) file (L.many files.now) self.new.along result (sending (W.written out.old) outgoing.old) (sending (W.written out.new) outgoing.new) }
+        ensures byte { TellsByte (L.gives files.now) result }
         ensures more { IfOk result (λ next. file < next) }
         ensures within { IfOk result (λ next. next ≤ L.many files.now) }
         ensures source { self.new.source ≡ self.old.source }
@@ -267,6 +277,7 @@ impl<'t, 'w> Sequel<'t, 'w> {
     ) -> Result<(), StreamError>
         requires { from ≤ L.many files.now }
         ensures told { PutsFiles (λ logs. logs_behind from self.old.source self.old.had [] logs self.old.along) (L.gives files.now) from (L.many files.now) self.new.along result (sending (W.written out.old) outgoing.old) (sending (W.written out.new) outgoing.new) }
+        ensures byte { TellsByte (L.gives files.now) result }
         ensures source { self.new.source ≡ self.old.source }
         ensures had { self.new.had ≡ self.old.had }
     {

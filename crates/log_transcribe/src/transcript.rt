@@ -12,7 +12,7 @@ ghost use Rattle.log_transcribe.specs.Transcript.{source_value, course_told, log
 ghost use Rattle.log_transcribe.specs.Feed.{IsFeedOfLogs};
 ghost use Rattle.log_transcribe.specs.Streamed.{EndsSo};
 ghost use Rattle.log_transcribe.specs.Private.Bytes.{course_error_at, change_error_at, tell_error_at, with_messages, last_with, PutsNext, KeepsWaiting};
-ghost use Rattle.log_transcribe.specs.Private.Sends.{Puts, PutsEnd, PutsFiles, PutsLog, PutsOne, PutsSpan, Stills, TellsAll, logs_error_of, sending};
+ghost use Rattle.log_transcribe.specs.Private.Sends.{NoFile, OneFile, OrFile, Puts, PutsEnd, PutsFiles, PutsLog, PutsOne, PutsSpan, Stills, TellsAll, TellsByte, logs_error_of, sending};
 
 use crate::fault::{LogsError, LogsFault, StreamError, TellError};
 use crate::files::{LentLogs, LogFiles, ReadFault};
@@ -78,13 +78,22 @@ impl LogEnd<'_> {
         self.waiting.is_empty()
     }
 
-    /// Nothing waits there that changes anything, where this is the end of the last file, the one before this place.
-    pub(crate) fn settle(&self, file: usize) -> Result<(), StreamError>
-        ensures { Stills (none_waits file (map waiting_value self.now.waiting.items)) result }
+    /// Nothing waits there that changes anything, where this is the end of the last file, which has these bytes; `next` is the
+    /// place behind it.
+    pub(crate) fn settle(
+        &self,
+        alloc: Global,
+        table: &CrcTable,
+        file: usize,
+        bytes: &[u8],
+        next: usize,
+    ) -> Result<(), StreamError>
+        ensures told { Stills (none_waits next (map waiting_value self.now.waiting.items)) result }
+        ensures byte { TellsByte (OneFile file bytes.now) result }
     {
-        match none_waits(file, &self.waiting) {
+        match none_waits(next, &self.waiting) {
             Ok(()) => Ok(()),
-            Err(error) => Err(at_end(self.read, error)),
+            Err(error) => Err(at_end(alloc, table, file, bytes, self.read, error)),
         }
     }
 }
@@ -204,18 +213,23 @@ impl<'t, 'w> Transcript<'t, 'w> {
         alloc: Global,
         out: &mut W,
         outgoing: &mut Outgoing,
+        table: &CrcTable,
         file: usize,
         bytes: &[u8],
         groups: &mut LogGroups<'_, '_>,
     ) -> Result<bool, StreamError>
         ensures told { PutsOne (course_told file self.old.source groups.old.groups self.old.far) (course_told file self.old.source groups.new.groups self.new.far) self.new.far (length groups.old.groups.items) (length groups.new.groups.items) result (sending (W.written out.old) outgoing.old) (sending (W.written out.new) outgoing.new) }
+        ensures byte { TellsByte (OneFile file bytes.now) result }
         ensures waiting { KeepsWaiting groups.old result groups.new }
         ensures source { self.new.source ≡ self.old.source }
     {
         let begin = bytes_read(bytes, groups);
         let more = match self.put_next(alloc, &mut outgoing.waits, file, groups) {
             Ok(more) => more,
-            Err(error) => return Err(inside(bytes, begin, bytes_read(bytes, groups), error)),
+            Err(error) => {
+                let end = bytes_read(bytes, groups);
+                return Err(inside(alloc, table, file, bytes, begin, end, error));
+            }
         };
         match outgoing.send_portion(out) {
             Ok(()) => Ok(more),
@@ -229,17 +243,19 @@ impl<'t, 'w> Transcript<'t, 'w> {
         alloc: Global,
         out: &mut W,
         outgoing: &mut Outgoing,
+        table: &CrcTable,
         file: usize,
         bytes: &[u8],
         groups: LogGroups<'_, 'b>,
     ) -> Result<LogEnd<'b>, StreamError>
         ensures told { Puts (course_told file self.old.source groups.entry.groups self.old.far) self.new.far result (sending (W.written out.old) outgoing.old) (sending (W.written out.new) outgoing.new) }
+        ensures byte { TellsByte (OneFile file bytes.now) result }
         ensures waiting { IfOk result (λ end. map waiting_value end.waiting.items ≡ groups.entry.waiting) }
         ensures source { self.new.source ≡ self.old.source }
     {
         let mut groups = groups;
         loop {
-            match self.send_next(alloc, out, outgoing, file, bytes, &mut groups) {
+            match self.send_next(alloc, out, outgoing, table, file, bytes, &mut groups) {
                 Ok(more) => {
                     if !more {
                         let read = bytes_read(bytes, &groups);
@@ -266,12 +282,13 @@ impl<'t, 'w> Transcript<'t, 'w> {
         bytes: &'b [u8],
     ) -> Result<LogEnd<'b>, StreamError>
         ensures told { PutsLog (log_told file self.old.source (map waiting_value waiting.entry.items) bytes.now self.old.far) (λ end. map waiting_value end.waiting.items) self.new.far result (sending (W.written out.old) outgoing.old) (sending (W.written out.new) outgoing.new) }
+        ensures byte { TellsByte (OneFile file bytes.now) result }
         ensures source { self.new.source ≡ self.old.source }
     {
         let reached = copy_of(alloc, &self.reached)?;
         match LogGroups::open(alloc, table, reached, waiting, bytes) {
-            Ok(groups) => self.send_groups(alloc, out, outgoing, file, bytes, groups),
-            Err(error) => Err(at_begin(bytes, of_course(file, error))),
+            Ok(groups) => self.send_groups(alloc, out, outgoing, table, file, bytes, groups),
+            Err(error) => Err(at_begin(alloc, table, file, bytes, of_course(file, error))),
         }
     }
 
@@ -291,6 +308,7 @@ impl<'t, 'w> Transcript<'t, 'w> {
     ) -> Result<usize, StreamError>
         requires { file < L.many files.now }
         ensures told { PutsSpan (λ logs. logs_told file self.old.source (map waiting_value waiting.entry.items) (bytes.now ∷ logs) self.old.far) (λ at left logs far. logs_told at self.old.source left logs far) (L.gives files.now) (file + 1) (L.many files.now) self.new.far result (sending (W.written out.old) outgoing.old) (sending (W.written out.new) outgoing.new) }
+        ensures byte { TellsByte (OrFile file bytes.now (L.gives files.now)) result }
         ensures more { IfOk result (λ next. file < next) }
         ensures within { IfOk result (λ next. next ≤ L.many files.now) }
         ensures source { self.new.source ≡ self.old.source }
@@ -307,7 +325,7 @@ impl<'t, 'w> Transcript<'t, 'w> {
         if next < count {
             return self.send_file(alloc, out, outgoing, table, files, next, end.waiting);
         }
-        match end.settle(next) {
+        match end.settle(alloc, table, file, bytes, next) {
             Ok(()) => Ok(next),
             Err(error) => Err(error),
         }
@@ -327,6 +345,7 @@ impl<'t, 'w> Transcript<'t, 'w> {
     ) -> Result<usize, StreamError>
         requires { file < L.many files.now }
         ensures told { PutsSpan (λ logs. logs_told file self.old.source (map waiting_value waiting.entry.items) logs self.old.far) (λ at left logs far. logs_told at self.old.source left logs far) (L.gives files.now) file (L.many files.now) self.new.far result (sending (W.written out.old) outgoing.old) (sending (W.written out.new) outgoing.new) }
+        ensures byte { TellsByte (L.gives files.now) result }
         ensures more { IfOk result (λ next. file < next) }
         ensures within { IfOk result (λ next. next ≤ L.many files.now) }
         ensures source { self.new.source ≡ self.old.source }
@@ -357,6 +376,7 @@ impl<'t, 'w> Transcript<'t, 'w> {
         files: &L,
     ) -> Result<(), StreamError>
         ensures told { PutsFiles (λ logs. logs_told 0 self.old.source [] logs self.old.far) (L.gives files.now) 0 (L.many files.now) self.new.far result (sending (W.written out.old) outgoing.old) (sending (W.written out.new) outgoing.new) }
+        ensures byte { TellsByte (L.gives files.now) result }
         ensures source { self.new.source ≡ self.old.source }
     {
         let mut file = 0;
@@ -379,7 +399,8 @@ impl<'t, 'w> Transcript<'t, 'w> {
         outgoing: &mut Outgoing,
         file: usize,
     ) -> Result<(), StreamError>
-        ensures { PutsEnd (of_tell file (last_told self.now.source self.now.far)) result (sending (W.written out.old) outgoing.old) (sending (W.written out.new) outgoing.new) }
+        ensures told { PutsEnd (of_tell file (last_told self.now.source self.now.far)) result (sending (W.written out.old) outgoing.old) (sending (W.written out.new) outgoing.new) }
+        ensures byte { TellsByte NoFile result }
     {
         match self.put_end(alloc, &mut outgoing.waits, file) {
             Ok(()) => outgoing.send(out),
@@ -438,7 +459,8 @@ fn told_of<L: LogFiles, W: Out>(
     files: &L,
     out: &mut W,
 ) -> Result<usize, StreamError>
-    ensures { TellsAll (λ logs. feed_told (source_value source.entry) logs) (L.gives files.now) 0 (L.many files.now) result (W.written out.old) (W.written out.new) }
+    ensures told { TellsAll (λ logs. feed_told (source_value source.entry) logs) (L.gives files.now) 0 (L.many files.now) result (W.written out.old) (W.written out.new) }
+    ensures byte { TellsByte (L.gives files.now) result }
 {
     let table = CrcTable::new(alloc)?;
     let mut transcript = nothing(alloc, source)?;
@@ -455,7 +477,7 @@ fn told_of<L: LogFiles, W: Out>(
 /// The feed of logs, whose files are read one at a time, as it is written on `out`: a message for each transaction that has rows
 /// of the feed's tables, and at the end one for the position that was reached, where the last message has another. Each file is
 /// a whole log; the first one has to begin with no position. An error is the first fault of the logs, with its file and, where
-/// it is of one, its table; behind all of them that the feed would be too long; the first file that can't be read; that a write
+/// it is of one, its byte there and its table; behind all of them that the feed would be too long; the first file that can't be read; that a write
 /// failed; or want of memory. What was written before is of no use then. An XA transaction may be prepared in one file and end in
 /// another. Takes memory for one file, or for all from the first one behind which one waits, until none does; for one
 /// transaction, and 64 KiB of what is told.

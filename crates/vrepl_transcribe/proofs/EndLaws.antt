@@ -95,8 +95,8 @@ module _ (inputs : TranscribeInputs) (plan : PlanValue) (Gives : ℕ → List �
   why_under (stop.Fault fault byte) (Feed other) old new plain w is = absurd is
   why_under (stop.Fault fault byte) (Line line) old new plain w is = (
     unread_logs s fault,
-    record { logs = w.logs; gave = w.gave; is = λ others both. so (w.logs ++ others) (Err (behind_fault.Logs fault)) plain (w.is others both) },
-    is,
+    record { logs = w.0.logs; gave = w.0.gave; is = λ others both. so (w.0.logs ++ others) (Err (behind_fault.Logs fault)) plain (w.0.is others both) },
+    (byte, is, w.1),
   )
 
   -- the same of a source that is this one

@@ -102,7 +102,7 @@ fn fault_line(
     fault: LogsFault,
     byte: Option<usize>,
 ) -> Untranscribed
-    ensures { IsLineOf (map (λ name. name.now) names.now) (map table_value tables.now) fault result }
+    ensures { IsLineOf (map (λ name. name.now) names.now) (map table_value tables.now) fault byte result }
 {
     match logs_line(alloc, names, tables, fault, byte) {
         Ok(line) => Untranscribed::Line(line),

@@ -1,5 +1,5 @@
 -- Messages on their way to a writer, file by file.
-use Rattle.std.specs.Prelude.{◌≡◌, ◌<◌, ◌≤◌, ℕ, ◌+◌, ◌-◌, ◌^◌, min, Bool, true, false, List, [], ◌++◌, length, Option, Result, Ok, Err}
+use Rattle.std.specs.Prelude.{◌≡◌, ◌⊎◌, ◌<◌, ◌≤◌, ℕ, ◌+◌, ◌-◌, ◌^◌, min, Bool, true, false, List, [], ◌++◌, length, Option, Result, Ok, Err}
 use Rattle.printing.specs.Printing.{Written, IsWritten, BreaksOff}
 use Rattle.vevent.specs.EventValue.{EventValue}
 use Rattle.log_groups.specs.Group.{WaitingValue, still_waits}
@@ -12,6 +12,7 @@ use Rattle.log_transcribe.specs.declared.fault.BehindFault.TheVariants.{Feed, Lo
 use Rattle.log_transcribe.specs.declared.fault.BehindError.{BehindError}
 use Rattle.log_transcribe.specs.declared.fault.BehindError.TheVariants as behind_error
 use Rattle.log_transcribe.specs.declared.outgoing.Outgoing.{Outgoing}
+use Rattle.log_transcribe.specs.Byte.{IsByteOf}
 use Rattle.log_transcribe.specs.Files.{GaveFrom}
 use Rattle.log_transcribe.specs.Private.Bytes.{with_messages, with_waiting, last_with, bytes_told}
 
@@ -72,10 +73,32 @@ PutsOne all rest far left fewer (Ok true) old new = GoesOn all rest old new × (
 PutsOne all rest far left fewer (Ok false) old new = GoesOn all (done far) old new
 PutsOne all rest far left fewer (Err error) old new = Stops all error old.written new.written
 
--- an error of the logs, with some byte
+-- an error of the logs, with some byte, unless memory was wanting where that was looked for
 abbrev pub IsOfLogs : LogsError → StreamError → Type 0
 IsOfLogs logs_error.Memory error = error ≡ stop.Memory
-IsOfLogs (logs_error.Fault fault) error = (byte : Option ℕ) × (error ≡ stop.Fault fault byte)
+IsOfLogs (logs_error.Fault fault) stop.Memory = Unit {0}
+IsOfLogs (logs_error.Fault fault) (stop.Fault other byte) = other ≡ fault
+IsOfLogs (logs_error.Fault fault) error = ⊥
+
+-- where an error tells a byte, its fault stands there in bytes that its file gave
+abbrev pub StopsAt : (ℕ → List ℕ → Type 0) → StreamError → Type 0
+StopsAt Gives (stop.Fault fault byte) = IsByteOf Gives fault byte
+StopsAt Gives error = Unit {0}
+
+abbrev pub TellsByte : {X : Type 0} → (ℕ → List ℕ → Type 0) → Result X StreamError → Type 0
+TellsByte Gives (Ok x) = Unit {0}
+TellsByte Gives (Err error) = StopsAt Gives error
+
+-- no file gave any
+abbrev pub NoFile : ℕ → List ℕ → Type 0
+NoFile file bytes = ⊥
+
+-- this file gave these bytes; and others may have given others
+abbrev pub OneFile : ℕ → List ℕ → ℕ → List ℕ → Type 0
+OneFile file bytes at log = (at ≡ file) × (log ≡ bytes)
+
+abbrev pub OrFile : ℕ → List ℕ → (ℕ → List ℕ → Type 0) → ℕ → List ℕ → Type 0
+OrFile file bytes Gives at log = OneFile file bytes at log ⊎ Gives at log
 
 -- a fault of the logs; any other error is want of memory there
 abbrev pub logs_error_of : StreamError → LogsError

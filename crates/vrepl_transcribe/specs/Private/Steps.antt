@@ -42,11 +42,11 @@ abbrev pub made_from : SourceTables → Option (List ℕ) → List (List ℕ) �
 made_from s None logs = of_logs (feed_of_logs s logs)
 made_from s (Some feed) logs = behind_of_logs s feed logs
 
--- the line is of a fault, with some byte, unless memory was wanting
-abbrev pub IsLineOf : List (List ℕ) → List feed.TableValue → LogsFault → Untranscribed → Type 0
-IsLineOf names tables fault Memory = Unit {0}
-IsLineOf names tables fault (Line line) = (byte : Option ℕ) × (line.items ≡ logs_line names tables fault byte)
-IsLineOf names tables fault why = ⊥
+-- the line is of a fault with its byte, unless memory was wanting
+abbrev pub IsLineOf : List (List ℕ) → List feed.TableValue → LogsFault → Option ℕ → Untranscribed → Type 0
+IsLineOf names tables fault byte Memory = Unit {0}
+IsLineOf names tables fault byte (Line line) = line.items ≡ logs_line names tables fault byte
+IsLineOf names tables fault byte why = ⊥
 
 -- the same of any error
 abbrev pub IsWhyOf : List (List ℕ) → List feed.TableValue → StreamError → Untranscribed → Type 0
@@ -54,7 +54,7 @@ IsWhyOf names tables stop.Memory why = why ≡ Memory
 IsWhyOf names tables stop.Unwritten why = why ≡ Unwritten
 IsWhyOf names tables (stop.Unread file) why = why ≡ Unread file
 IsWhyOf names tables (stop.Feed fault) why = why ≡ Feed fault
-IsWhyOf names tables (stop.Fault fault byte) why = IsLineOf names tables fault why
+IsWhyOf names tables (stop.Fault fault byte) why = IsLineOf names tables fault byte why
 
 -- ---- under a plan
 
@@ -80,7 +80,7 @@ EndsUnder inputs plan Gives many (Err Memory) old new = Unit {0}
 EndsUnder inputs plan Gives many (Err Unwritten) old new = (text : List ℕ) × BreaksOff old new text
 EndsUnder inputs plan Gives many (Err (Unread file)) old new = IsUnreadAt Gives many file
 EndsUnder inputs plan Gives many (Err (Feed fault)) old new = IsNotUnder inputs plan Gives many (unread_feed fault)
-EndsUnder inputs plan Gives many (Err (Line line)) old new = (why : WhyNot) × IsNotUnder inputs plan Gives many why × SaysWhy (names_of inputs) why line.items
+EndsUnder inputs plan Gives many (Err (Line line)) old new = (why : WhyNot) × IsNotUnder inputs plan Gives many why × SaysWhy Gives (names_of inputs) why line.items
 EndsUnder inputs plan Gives many (Err why) old new = ⊥
 
 -- the bytes were printed whole, or a beginning of them

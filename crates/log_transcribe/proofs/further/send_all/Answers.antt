@@ -2,8 +2,9 @@ use Rattle.std.proofs.Common.{[], ◌∷◌, Option, Ok, Err, subst, sym}
 use Rattle.log_transcribe.specs.declared.files.LogBytes.{LogBytes}
 use Rattle.log_transcribe.specs.Behind.{log_behind, logs_behind}
 use Rattle.log_transcribe.specs.Files.{log_bytes}
-use Rattle.log_transcribe.specs.Private.Opens.{HasFirst, logs_from, place_behind}
-use Rattle.log_transcribe.specs.Private.Sends.{PutsFiles, sending}
+use Rattle.log_transcribe.specs.Private.Opens.{HasFirst, OrFirst, logs_from, place_behind}
+use Rattle.log_transcribe.specs.Private.Sends.{PutsFiles, StopsAt, sending}
+use Rattle.log_transcribe.proofs.ByteLaws.{tells_first}
 use Rattle.log_transcribe.proofs.StreamLaws.{behind_tell, no_file, over_rest, over_stopped}
 use Rattle.log_transcribe.proofs.further.send_all.Goals as goal
 
@@ -28,3 +29,10 @@ returns-in-Err-clause-told g c =
     (over_stopped (λ file waiting bytes a. log_behind file c.args.sequel.now.source c.args.sequel.now.had waiting bytes a) (λ at left logs along. logs_behind at c.args.sequel.now.source c.args.sequel.now.had left logs along) (behind_tell c.args.sequel.now.source c.args.sequel.now.had) (g.L.LogFiles.gives c.args.files.now)
     (λ others. logs_behind 0 c.args.sequel.now.source c.args.sequel.now.had [] (log_bytes c.in-Some.log ∷ others) c.args.sequel.now.along) 1 (g.L.LogFiles.many c.args.files.now) c.send_first.new.sequel.along c.send_first.new.sequel.along c.in-Err.error
     (sending (g.W.Out.written c.args.out.now) c.args.outgoing.now) (sending (g.W.Out.written c.send_first.new.out) c.send_first.new.outgoing) c.in-Err.ensures.told)
+
+pub returns-in-Ok-clause-byte : goal.returns-in-Ok-clause-byte
+returns-in-Ok-clause-byte g c = tells_first (g.L.LogFiles.gives c.args.files.now) c.args.log c.send_others.result c.send_others.ensures.byte
+
+pub returns-in-Err-clause-byte : goal.returns-in-Err-clause-byte
+returns-in-Err-clause-byte g c =
+    subst (λ (l : Option LogBytes). StopsAt (OrFirst l (g.L.LogFiles.gives c.args.files.now)) c.in-Err.error) (sym c.in-Some.is) c.in-Err.ensures.byte

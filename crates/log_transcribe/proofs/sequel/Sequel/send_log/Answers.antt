@@ -20,4 +20,4 @@ returns-in-Err-clause-told g c =
     log_unsent (log_behind c.args.file c.args.self.now.source c.args.self.now.had (map waiting_value c.args.waiting.items) c.args.bytes.now c.args.self.now.along) c.args.outgoing.now.waits.items (course_error_at c.args.file c.in-Err.error) c.at_begin.result (g.W.Out.written c.args.out.now) (g.W.Out.written c.args.out.now)
     (file-unopened c.args.file c.args.self.now.source c.args.self.now.had (map waiting_value c.args.waiting.items) c.args.bytes.now c.args.self.now.along c.args.outgoing.now.waits.items c.in-Err.error
     (rw (c.in_ok-reached.ensures ∙ ap (λ (q : SequelValue). q.along.logs) c.self.view_is) at c.in-Err.ensures.reading))
-    (rw c.of_course.ensures at c.at_begin.ensures)
+    (rw c.of_course.ensures at c.at_begin.ensures.error)

@@ -18,4 +18,4 @@ pub returns-in-Err-clause-told : goal.returns-in-Err-clause-told
 returns-in-Err-clause-told g c =
     log_unsent (log_told c.args.file c.args.self.now.source (map waiting_value c.args.waiting.items) c.args.bytes.now c.args.self.now.far) c.args.outgoing.now.waits.items (course_error_at c.args.file c.in-Err.error) c.at_begin.result (g.W.Out.written c.args.out.now) (g.W.Out.written c.args.out.now)
     (log-unopened c.args.file c.args.self.now.source (map waiting_value c.args.waiting.items) c.args.bytes.now c.args.self.now.far _ c.args.outgoing.now.waits.items c.in-Err.error (c.in_ok-reached.ensures ∙ ap (λ (t : TranscriptValue). t.far.reached) c.self.view_is) c.in-Err.ensures.reading)
-    (rw c.of_course.ensures at c.at_begin.ensures)
+    (rw c.of_course.ensures at c.at_begin.ensures.error)

@@ -1,0 +1,395 @@
+//! Whether a byte of a file is the one at which a fault stands: the file's first bytes are read once more.
+
+ghost use Rattle.std.specs.Prelude.{◌≡◌, ◌⊎◌, true, length, Some, IfOk, IfSome};
+ghost use Rattle.log_groups.specs.declared.fault.GroupFault.TheVariants.{Unended};
+ghost use Rattle.log_transcribe.specs.Byte.{BeginsAt, MayGoOn, FailsAt, EndsAt, IsBeginning, GroupAt, IsFirst, PlaceAt, CourseAt, StandsAt, IsByteOf, byte_of_log};
+ghost use Rattle.log_transcribe.specs.Private.Cuts.{AreCuts, Follows, IsCutAt};
+ghost use Rattle.log_transcribe.specs.Private.Sends.{IsOfLogs, StopsAt, OneFile};
+ghost use Rattle.log_transcribe.specs.declared.fault.LogsError.TheVariants as logs_error;
+
+use crate::events::behind_event;
+use crate::fault::{LogsFault, StreamError};
+use log_course::CourseFault;
+use log_events::{CrcTable, EventFault, Events, LogFault, log_of};
+use log_groups::{GroupError, GroupFault, Transactions};
+use log_laws::TellFault;
+use log_places::PlaceFault;
+use std::alloc::{AllocError, Global};
+
+/// What a file's first bytes are, no event of which is at fault: how many events and how many transactions, and how these end.
+#[derive(Clone, Copy)]
+pub(crate) struct Cut {
+    events: usize,
+    transactions: usize,
+    end: Option<GroupFault>,
+}
+
+/// How many events there are, and the fault that ends them.
+fn events_in(events: Events<'_, '_>) -> Result<(usize, Option<EventFault>), AllocError>
+    ensures many { IfOk result (λ x. length events.entry.reading.items ≡ x.0) }
+    ensures fault { IfOk result (λ x. events.entry.reading.fault ≡ x.1) }
+{
+    let mut events = events;
+    let mut many: usize = 0;
+    loop {
+        match events.next_event() {
+            Ok(Some(_)) => match many.checked_add(1) {
+                Some(more) => many = more,
+                None => return Err(AllocError),
+            },
+            Ok(None) => return Ok((many, None)),
+            Err(fault) => return Ok((many, Some(fault))),
+        }
+    }
+}
+
+/// How many transactions there are, and the fault that ends them.
+fn transactions_in(
+    alloc: Global,
+    transactions: Transactions<'_, '_>,
+) -> Result<(usize, Option<GroupFault>), AllocError>
+    ensures many { IfOk result (λ x. length transactions.entry.reading.items ≡ x.0) }
+    ensures fault { IfOk result (λ x. transactions.entry.reading.fault ≡ x.1) }
+{
+    let mut transactions = transactions;
+    let mut many: usize = 0;
+    loop {
+        match transactions.next_transaction(alloc) {
+            Ok(Some(_)) => match many.checked_add(1) {
+                Some(more) => many = more,
+                None => return Err(AllocError),
+            },
+            Ok(None) => return Ok((many, None)),
+            Err(GroupError::Fault(fault)) => return Ok((many, Some(fault))),
+            Err(GroupError::Memory) => return Err(AllocError),
+        }
+    }
+}
+
+/// What the first so many bytes of a file are, where they are a log no event of which is at fault.
+fn cut_at(
+    alloc: Global,
+    table: &CrcTable,
+    bytes: &[u8],
+    byte: usize,
+) -> Result<Option<Cut>, AllocError>
+    ensures { IfOk result (λ cut. IfSome cut (λ c. IsCutAt bytes.now byte c)) }
+{
+    if bytes.len() < byte {
+        return Ok(None);
+    }
+    let front = bytes.split_at(byte).0;
+    let Ok(log) = log_of(table, front) else {
+        return Ok(None);
+    };
+    let (events, fault) = events_in(log.events)?;
+    if fault.is_some() {
+        return Ok(None);
+    }
+    let Ok(log) = log_of(table, front) else {
+        return Ok(None);
+    };
+    let (transactions, end) = transactions_in(alloc, Transactions::new(log.events))?;
+    Ok(Some(Cut {
+        events,
+        transactions,
+        end,
+    }))
+}
+
+/// What they are up to a byte, and with the event that stands there.
+fn cuts_at(
+    alloc: Global,
+    table: &CrcTable,
+    bytes: &[u8],
+    byte: usize,
+) -> Result<Option<(Cut, Cut)>, AllocError>
+    ensures { IfOk result (λ cuts. IfSome cuts (λ c. AreCuts bytes.now byte c.0 c.1)) }
+{
+    let Some(before) = cut_at(alloc, table, bytes, byte)? else {
+        return Ok(None);
+    };
+    let Some(behind) = cut_at(alloc, table, bytes, behind_event(bytes, byte))? else {
+        return Ok(None);
+    };
+    Ok(Some((before, behind)))
+}
+
+/// Whether one has an event more than the other, and as many transactions.
+fn follows(before: Cut, behind: Cut) -> bool
+    ensures { result ≡ true → Follows before behind }
+{
+    before.events < behind.events
+        && behind.events - before.events == 1
+        && behind.transactions == before.transactions
+}
+
+/// Whether the transactions of events end so.
+fn is_end(end: Option<GroupFault>, fault: GroupFault) -> bool
+    ensures { result ≡ true → end ≡ Some fault }
+{
+    match end {
+        Some(other) => other == fault,
+        None => false,
+    }
+}
+
+/// Whether the events so far are at no fault, where the last transaction may be open.
+fn may_go_on(end: Option<GroupFault>) -> bool
+    ensures { result ≡ true → MayGoOn end }
+{
+    match end {
+        None => true,
+        Some(GroupFault::Unended) => true,
+        Some(_) => false,
+    }
+}
+
+/// Behind how many transactions one begins at a byte, if one does.
+fn beginning_at(
+    alloc: Global,
+    table: &CrcTable,
+    bytes: &[u8],
+    byte: usize,
+) -> Result<Option<usize>, AllocError>
+    ensures { IfOk result (λ many. IfSome many (λ n. BeginsAt bytes.now byte n)) }
+{
+    let Some((before, behind)) = cuts_at(alloc, table, bytes, byte)? else {
+        return Ok(None);
+    };
+    if before.end.is_none() && is_end(behind.end, GroupFault::Unended) && follows(before, behind) {
+        return Ok(Some(before.transactions));
+    }
+    Ok(None)
+}
+
+/// Whether a transaction begins at a byte.
+fn is_beginning(
+    alloc: Global,
+    table: &CrcTable,
+    bytes: &[u8],
+    byte: usize,
+) -> Result<bool, AllocError>
+    ensures { IfOk result (λ is. is ≡ true → IsBeginning bytes.now byte) }
+{
+    match beginning_at(alloc, table, bytes, byte)? {
+        Some(_) => Ok(true),
+        None => Ok(false),
+    }
+}
+
+/// Whether a transaction begins at a byte that the file doesn't end, and that is its last one.
+fn is_unended(
+    alloc: Global,
+    table: &CrcTable,
+    bytes: &[u8],
+    byte: usize,
+) -> Result<bool, AllocError>
+    ensures { IfOk result (λ is. is ≡ true → GroupAt bytes.now Unended byte) }
+{
+    let Some(transactions) = beginning_at(alloc, table, bytes, byte)? else {
+        return Ok(false);
+    };
+    let Some(whole) = cut_at(alloc, table, bytes, bytes.len())? else {
+        return Ok(false);
+    };
+    Ok(whole.transactions == transactions && is_end(whole.end, GroupFault::Unended))
+}
+
+/// Whether the event at a byte is at this fault.
+fn is_failing(
+    alloc: Global,
+    table: &CrcTable,
+    bytes: &[u8],
+    byte: usize,
+    fault: GroupFault,
+) -> Result<bool, AllocError>
+    ensures { IfOk result (λ is. is ≡ true → FailsAt bytes.now byte fault) }
+{
+    let Some((before, behind)) = cuts_at(alloc, table, bytes, byte)? else {
+        return Ok(false);
+    };
+    Ok(may_go_on(before.end) && is_end(behind.end, fault) && follows(before, behind))
+}
+
+/// What stands behind all events of a file, where these end at a byte: its end or a fault.
+fn end_at(
+    alloc: Global,
+    table: &CrcTable,
+    bytes: &[u8],
+    byte: usize,
+) -> Result<Option<Option<EventFault>>, AllocError>
+    ensures { IfOk result (λ end. IfSome end (λ fault. EndsAt bytes.now byte fault)) }
+{
+    let Some(before) = cut_at(alloc, table, bytes, byte)? else {
+        return Ok(None);
+    };
+    let Ok(log) = log_of(table, bytes) else {
+        return Ok(None);
+    };
+    let (events, fault) = events_in(log.events)?;
+    if events == before.events {
+        return Ok(Some(fault));
+    }
+    Ok(None)
+}
+
+/// Whether that is this fault.
+fn is_event_fault(end: Option<Option<EventFault>>, fault: EventFault) -> bool
+    ensures { result ≡ true → end ≡ Some (Some fault) }
+{
+    match end {
+        Some(Some(other)) => other == fault,
+        _ => false,
+    }
+}
+
+/// Whether no event stands before a byte.
+fn is_first(alloc: Global, table: &CrcTable, bytes: &[u8], byte: usize) -> Result<bool, AllocError>
+    ensures { IfOk result (λ is. is ≡ true → IsFirst bytes.now byte) }
+{
+    let Some(cut) = cut_at(alloc, table, bytes, byte)? else {
+        return Ok(false);
+    };
+    Ok(cut.events == 0 && cut.transactions == 0 && cut.end.is_none())
+}
+
+/// Whether a fault of transactions stands at a byte.
+fn group_at(
+    alloc: Global,
+    table: &CrcTable,
+    bytes: &[u8],
+    byte: usize,
+    fault: GroupFault,
+) -> Result<bool, AllocError>
+    ensures { IfOk result (λ is. is ≡ true → GroupAt bytes.now fault byte) }
+{
+    match fault {
+        GroupFault::Event(fault) => {
+            let end = end_at(alloc, table, bytes, byte)?;
+            Ok(is_event_fault(end, fault))
+        }
+        GroupFault::StillPrepared => {
+            let end = end_at(alloc, table, bytes, byte)?;
+            Ok(end.is_some())
+        }
+        GroupFault::Unended => is_unended(alloc, table, bytes, byte),
+        GroupFault::Twice => is_beginning(alloc, table, bytes, byte),
+        GroupFault::NotPrepared => is_beginning(alloc, table, bytes, byte),
+        _ => is_failing(alloc, table, bytes, byte, fault),
+    }
+}
+
+/// Whether no event stands before a byte, or a transaction begins there.
+fn is_either(alloc: Global, table: &CrcTable, bytes: &[u8], byte: usize) -> Result<bool, AllocError>
+    ensures { IfOk result (λ is. is ≡ true → IsFirst bytes.now byte ⊎ IsBeginning bytes.now byte) }
+{
+    if is_first(alloc, table, bytes, byte)? {
+        return Ok(true);
+    }
+    is_beginning(alloc, table, bytes, byte)
+}
+
+/// Whether a fault of positions stands at a byte.
+fn place_at(
+    alloc: Global,
+    table: &CrcTable,
+    bytes: &[u8],
+    byte: usize,
+    fault: PlaceFault,
+) -> Result<bool, AllocError>
+    ensures { IfOk result (λ is. is ≡ true → PlaceAt bytes.now fault byte) }
+{
+    match fault {
+        PlaceFault::GoesBack => is_beginning(alloc, table, bytes, byte),
+        PlaceFault::NoNumber => is_either(alloc, table, bytes, byte),
+        _ => is_first(alloc, table, bytes, byte),
+    }
+}
+
+/// Where a file is at fault that is no log.
+fn byte_of_log(fault: LogFault) -> usize
+    ensures { result ≡ byte_of_log fault }
+{
+    match fault {
+        LogFault::NoLog => 0,
+        LogFault::Encrypted => 0,
+        _ => 4,
+    }
+}
+
+/// Whether a fault of a file stands at a byte.
+fn course_at(
+    alloc: Global,
+    table: &CrcTable,
+    bytes: &[u8],
+    byte: usize,
+    fault: CourseFault,
+) -> Result<bool, AllocError>
+    ensures { IfOk result (λ is. is ≡ true → CourseAt bytes.now fault byte) }
+{
+    match fault {
+        CourseFault::Log(fault) => Ok(byte == byte_of_log(fault)),
+        CourseFault::Group(fault) => group_at(alloc, table, bytes, byte, fault),
+        CourseFault::Place(fault) => place_at(alloc, table, bytes, byte, fault),
+    }
+}
+
+/// Whether a fault stands at a byte.
+fn stands_at(
+    alloc: Global,
+    table: &CrcTable,
+    bytes: &[u8],
+    byte: usize,
+    fault: LogsFault,
+) -> Result<bool, AllocError>
+    ensures { IfOk result (λ is. is ≡ true → StandsAt bytes.now fault byte) }
+{
+    match fault {
+        LogsFault::Course(_, fault) => course_at(alloc, table, bytes, byte, fault),
+        LogsFault::Tell(_, TellFault::Change(_)) => is_beginning(alloc, table, bytes, byte),
+        LogsFault::Tell(_, TellFault::Position) => Ok(false),
+        LogsFault::TooLong(_) => Ok(false),
+    }
+}
+
+/// The byte of a fault of a file, if it stands there.
+fn byte_of(
+    alloc: Global,
+    table: &CrcTable,
+    file: usize,
+    bytes: &[u8],
+    fault: LogsFault,
+    byte: Option<usize>,
+) -> Result<Option<usize>, AllocError>
+    ensures { IfOk result (λ byte. IsByteOf (OneFile file bytes.now) fault byte) }
+{
+    let Some(place) = byte else {
+        return Ok(None);
+    };
+    if fault.file() != file {
+        return Ok(None);
+    }
+    if stands_at(alloc, table, bytes, place, fault)? {
+        return Ok(Some(place));
+    }
+    Ok(None)
+}
+
+/// A fault of a file, with its byte, if it stands there.
+pub(crate) fn told_at(
+    alloc: Global,
+    table: &CrcTable,
+    file: usize,
+    bytes: &[u8],
+    fault: LogsFault,
+    byte: Option<usize>,
+) -> StreamError
+    ensures error { IsOfLogs (logs_error.Fault fault) result }
+    ensures byte { StopsAt (OneFile file bytes.now) result }
+{
+    match byte_of(alloc, table, file, bytes, fault, byte) {
+        Ok(byte) => StreamError::Fault(fault, byte),
+        Err(_) => StreamError::Memory,
+    }
+}
