@@ -6,9 +6,9 @@ use Rattle.vrepl_main.specs.Running.{opened_asked, RunEnds}
 use Rattle.vrepl_main.specs.declared.input.InputName.TheVariants.{File, Standard}
 use Rattle.vrepl_main.specs.declared.named_inputs.RunCourse.{RunCourse}
 use Rattle.vrepl_main.specs.declared.refusal.CommandRefusal.{CommandRefusal}
-use Rattle.vrepl_words.specs.declared.words.Run.{Run}
-use Rattle.vrepl_words.specs.declared.words.Words.{Words}
-use Rattle.vrepl_words.specs.declared.words.Words.TheVariants as ways
+use Rattle.vrepl_words.specs.declared.commands.run.Run.{Run}
+use Rattle.vrepl_words.specs.declared.commands.Words.{Words}
+use Rattle.vrepl_words.specs.declared.commands.Words.TheVariants as ways
 use Rattle.vrepl.specs.Asked.{IsCheckAsked, IsCompactAsked, IsFeedAsked, IsVdiffAsked, feed_inputs, text_asked}
 use Rattle.vrepl.specs.Compared.{asks_more, ComparedEnds}
 use Rattle.vrepl.specs.declared.answering.Asked.{Asked}

@@ -16,16 +16,16 @@ use Rattle.vrepl_vdiff.specs.declared.options.Options.{Options}
 use Rattle.compaction.specs.declared.cut.UnknownTables.{UnknownTables}
 use Rattle.compaction.specs.declared.cut.UnknownTables.TheVariants.{Refused, LeftOut}
 use Rattle.vrepl_compact.specs.declared.inputs.CompactInputs.{CompactInputs}
-use Rattle.vrepl_words.specs.declared.words.Check.{Check}
-use Rattle.vrepl_words.specs.declared.words.Compact.{Compact}
+use Rattle.vrepl_words.specs.declared.commands.check.Check.{Check}
+use Rattle.vrepl_words.specs.declared.commands.compact.Compact.{Compact}
 use Rattle.vrepl_feed.specs.declared.inputs.FeedInputs.{FeedInputs}
 use Rattle.vrepl_main.specs.declared.input.InputName.{InputName}
 use Rattle.vrepl_main.specs.declared.input.InputName.TheVariants.{File, Standard}
-use Rattle.vrepl_words.specs.declared.words.Feed.{Feed}
-use Rattle.vrepl_words.specs.declared.words.Show.{Show}
-use Rattle.vrepl_words.specs.declared.words.Vdiff.{Vdiff}
-use Rattle.vrepl_words.specs.declared.words.Words.{Words}
-use Rattle.vrepl_words.specs.declared.words.Words.TheVariants as ways
+use Rattle.vrepl_words.specs.declared.commands.feed.Feed.{Feed}
+use Rattle.vrepl_words.specs.declared.commands.show.Show.{Show}
+use Rattle.vrepl_words.specs.declared.commands.vdiff.Vdiff.{Vdiff}
+use Rattle.vrepl_words.specs.declared.commands.Words.{Words}
+use Rattle.vrepl_words.specs.declared.commands.Words.TheVariants as ways
 
 -- the text of a feed's groups in this form, or why it is refused
 abbrev pub text_as : ReportForm → FeedForm → List ℕ → List ℕ → List ℕ → Result (List ℕ) Reason

@@ -12,7 +12,7 @@ use printing::Out;
 use std::alloc::Global;
 use vrepl_check::{CheckInputs, check, print_place};
 use vrepl_main::{CommandRefusal, read_inputs, run_inputs};
-use vrepl_words::words::Check;
+use vrepl_words::commands::check::Check;
 
 /// Reads the inputs that the words name: the workflow's file, and the feeds' files in the order of the streams.
 pub(crate) fn read_check<'n, 'w>(

@@ -16,7 +16,7 @@ use vrepl_compact::{
     CompactInputs, NewFeed, PlannedInputs, Uncompacted, compacted, planned, refuse_uncompacted,
 };
 use vrepl_main::{CommandRefusal, read_inputs, run_inputs};
-use vrepl_words::words::Compact;
+use vrepl_words::commands::compact::Compact;
 
 /// The same names.
 fn copied<'w>(alloc: Global, names: &[&'w str]) -> Result<Vec<&'w str>, AllocError>

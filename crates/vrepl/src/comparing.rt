@@ -13,7 +13,7 @@ use std::alloc::Global;
 use vrepl_choices::ReportForm;
 use vrepl_main::{CommandRefusal, InputName, read_input, vdiff};
 use vrepl_vdiff::{Detail, Dump, Options, VdiffInputs, vdiff_with};
-use vrepl_words::words::Vdiff;
+use vrepl_words::commands::vdiff::Vdiff;
 
 /// Reads the inputs that the words name: the workflow's file, and the dumps, of which standard input is the first that
 /// is `-`.
