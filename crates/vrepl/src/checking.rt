@@ -1,8 +1,7 @@
 //! The inputs of `check`, and the report on them.
 
 ghost use Rattle.std.specs.Prelude.{◌≡◌, ◌≢◌, ◌∷◌, map, IfErr, IfOk};
-ghost use Rattle.vrepl.specs.Asked.{IsCheckAsked};
-ghost use Rattle.vrepl.specs.Checked.{ReportEnds};
+ghost use Rattle.vrepl.specs.Checked.{IsCheckAsked, ReportEnds};
 ghost use Rattle.vrepl_main.specs.Inputs.{IsUnreadAmong};
 ghost use Rattle.vrepl_main.specs.declared.input.InputName.TheVariants.{File};
 

@@ -1,7 +1,7 @@
 //! The subcommand `compact` over files.
 
 ghost use Rattle.std.specs.Prelude.{◌≡◌, ◌≤◌, ◌∷◌, map, IfErr, IfOk};
-ghost use Rattle.vrepl.specs.Asked.{IsCompactAsked, unknown_asked};
+ghost use Rattle.vrepl.specs.Compacted.{IsCompactAsked, unknown_asked};
 ghost use Rattle.vrepl.specs.Kept.{IsUnkept};
 ghost use Rattle.vrepl_main.specs.Inputs.{IsUnreadAmong};
 ghost use Rattle.vrepl_main.specs.declared.input.InputName.TheVariants.{File};

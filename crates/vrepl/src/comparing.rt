@@ -1,8 +1,7 @@
 //! The inputs of `vdiff`, and their comparison.
 
 ghost use Rattle.std.specs.Prelude.{◌≡◌, ◌≢◌, ◌∷◌, [], false, IfErr, IfOk};
-ghost use Rattle.vrepl.specs.Asked.{IsVdiffAsked, detail_asked, is_other, options_asked};
-ghost use Rattle.vrepl.specs.Compared.{ComparedEnds, asks_more, is_detailed, is_json};
+ghost use Rattle.vrepl.specs.Compared.{ComparedEnds, IsVdiffAsked, asks_more, detail_asked, is_detailed, is_json, is_other, options_asked};
 ghost use Rattle.vrepl_main.specs.Inputs.{IsUnreadAmong, is_standard, input_name};
 ghost use Rattle.vrepl_main.specs.declared.input.InputName.TheVariants.{File};
 

@@ -1,7 +1,7 @@
 //! The inputs of `feed`.
 
 ghost use Rattle.std.specs.Prelude.{IfErr, IfOk};
-ghost use Rattle.vrepl.specs.Asked.{IsFeedAsked, feed_inputs};
+ghost use Rattle.vrepl.specs.Fed.{IsFeedAsked, feed_inputs};
 ghost use Rattle.vrepl_main.specs.Inputs.{IsUnreadAmong};
 
 use vrepl_feed::FeedInputs;
