@@ -6,11 +6,15 @@ use Rattle.vrepl_main.specs.Running.{opened_asked, RunEnds}
 use Rattle.vrepl_main.specs.declared.input.InputName.TheVariants.{File, Standard}
 use Rattle.vrepl_main.specs.declared.named_inputs.RunCourse.{RunCourse}
 use Rattle.vrepl_main.specs.declared.refusal.CommandRefusal.{CommandRefusal}
-use Rattle.vrepl_words.specs.declared.words.Run.{Run}
-use Rattle.vrepl_words.specs.declared.words.Words.{Words}
-use Rattle.vrepl_words.specs.declared.words.Words.TheVariants as ways
-use Rattle.vrepl.specs.Asked.{IsCheckAsked, IsCompactAsked, IsFeedAsked, IsVdiffAsked, feed_inputs, text_asked}
-use Rattle.vrepl.specs.Compared.{asks_more, ComparedEnds}
+use Rattle.vrepl_choices.specs.declared.report_form.ReportForm.{ReportForm}
+use Rattle.vrepl_choices.specs.declared.report_form.ReportForm.TheVariants.{Lines}
+use Rattle.vrepl_words.specs.declared.commands.run.Run.{Run}
+use Rattle.vrepl_words.specs.declared.commands.Words.{Words}
+use Rattle.vrepl_words.specs.declared.commands.Words.TheVariants as ways
+use Rattle.vrepl.specs.Compacted.{IsCompactAsked}
+use Rattle.vrepl.specs.Compared.{asks_more, ComparedEnds, IsVdiffAsked}
+use Rattle.vrepl.specs.Fed.{IsFeedAsked, feed_inputs}
+use Rattle.vrepl.specs.Shown.{text_asked}
 use Rattle.vrepl.specs.declared.answering.Asked.{Asked}
 use Rattle.vrepl.specs.declared.answering.Asked.TheVariants as asked
 use Rattle.vrepl_main.specs.ScriptRun.{script_asked}
@@ -18,7 +22,7 @@ use Rattle.vrepl_main.specs.JoinedRun.{JoinEnds}
 use Rattle.vrepl_main.specs.Replied.{StepEnds}
 use Rattle.vrepl_main.specs.ResumedRun.{ResumeEnds}
 use Rattle.vrepl_main.specs.SavedBoard.{SaveEnds}
-use Rattle.vrepl.specs.Checked.{ReportEnds}
+use Rattle.vrepl.specs.Checked.{IsCheckAsked, ReportEnds}
 use Rattle.vrepl.specs.Stated.{IsStatusAsked, StatusEnds}
 use Rattle.vrepl.specs.Tiled.{TilesEnds}
 use Rattle.vrepl_compact.specs.Compacted.{CompactEnds}
@@ -92,3 +96,12 @@ AnswerEnds (asked.Feed inputs) = FeedEnds inputs
 AnswerEnds (asked.Check inputs) = λ status old new err_old err_new. ReportEnds inputs status old new err_old
 AnswerEnds (asked.Tiles inputs) = λ status old new err_old err_new. TilesEnds inputs status old new
 AnswerEnds (asked.Status inputs) = λ status old new err_old err_new. StatusEnds inputs status old new
+
+-- how a refusal is printed: as JSON where a report is
+abbrev pub report_form_asked : Words → ReportForm
+report_form_asked (ways.Show words) = words.report_form
+report_form_asked (ways.Vdiff words) = words.report_form
+report_form_asked (ways.Check words) = words.report_form
+report_form_asked (ways.Status words) = words.report_form
+report_form_asked (ways.Explain words) = words.report_form
+report_form_asked words = Lines

@@ -1,10 +1,15 @@
 -- What `check` leaves of the inputs that were read (this profile).
-use Rattle.std.specs.Prelude.{ℕ, true, false}
+use Rattle.std.specs.Prelude.{◌≡◌, ℕ, true, false}
 use Rattle.printing.specs.Printing.{Written}
 use Rattle.vrepl_check.specs.Checking.{PrintsReport, report_asked, text_of_report}
 use Rattle.vrepl_check.specs.declared.inputs.CheckInputs.{CheckInputs}
 use Rattle.vrepl_main.specs.Command.{Ends, IsGivenText}
 use Rattle.vrepl_refusal.specs.Form.{PrintsPlacedAs}
+use Rattle.vrepl_words.specs.declared.commands.check.Check.{Check}
+
+-- the inputs are those that these words ask for, by the names of the feeds' files
+abbrev pub IsCheckAsked : Check → CheckInputs → Type 0
+IsCheckAsked words inputs = (inputs.report_form ≡ words.report_form) × (inputs.strict ≡ words.strict) × (inputs.feed_form ≡ words.step.feed_form) × (inputs.files.now ≡ words.step.feeds.items)
 
 -- the line of a refusal was printed; what is told behind it of the fault's place isn't said here
 abbrev pub PrintsUnchecked : CheckInputs → Written → Written → Written → Type 0

@@ -8,7 +8,7 @@ use Rattle.vrepl_choices.specs.declared.report_form.ReportForm.TheVariants.{Line
 use Rattle.vrepl_main.specs.Command.{PrintsText}
 use Rattle.vrepl_main.specs.declared.refusal.CommandRefusal.{CommandRefusal}
 use Rattle.vrepl_refusal.specs.Form.{TextEndsAs}
-use Rattle.vrepl_words.specs.declared.words.Explain.{Explain}
+use Rattle.vrepl_words.specs.declared.commands.explain.Explain.{Explain}
 
 -- what is said of a number, or of all, in this form
 abbrev pub IsSaid : ReportForm → Option ℕ → List ℕ → Type 0

@@ -5,7 +5,7 @@ use Rattle.status_said.specs.Printed.{EndsSo}
 use Rattle.status_said.specs.Said.{status_said}
 use Rattle.status_said.specs.declared.printed.StatusEnd.{StatusEnd}
 use Rattle.status_said.specs.declared.printed.StatusEnd.TheVariants.{Printed, Broken, Memory, Unwritten}
-use Rattle.vrepl_words.specs.declared.words.Status.{Status}
+use Rattle.vrepl_words.specs.declared.commands.status.Status.{Status}
 use Rattle.vrepl.specs.declared.stating.StatusInputs.{StatusInputs}
 
 -- the inputs are those that these words ask for

@@ -9,7 +9,7 @@ use Rattle.vrepl.specs.Kept.{IsUnkept}
 use Rattle.vrepl_transcribe.specs.declared.transcribing.Untranscribed.{Untranscribed}
 use Rattle.vrepl_transcribe.specs.declared.transcribing.Untranscribed.TheVariants.{Unread, Unwritten}
 use Rattle.vrepl_transcribe.specs.declared.inputs.TranscribeInputs.{TranscribeInputs}
-use Rattle.vrepl_words.specs.declared.words.Transcribe.{Transcribe}
+use Rattle.vrepl_words.specs.declared.commands.transcribe.Transcribe.{Transcribe}
 
 -- the inputs are those that these words ask for: the stream's shard, the schema, the logs' names, and whether there is a feed
 -- behind which to go on

@@ -26,7 +26,9 @@ use vrepl_main::{
     Untold, join, read_input, read_join, read_resume, read_run, read_step, resume, run, save, step,
 };
 use vrepl_vdiff::VdiffInputs;
-use vrepl_words::words::{Join, Show, Words};
+use vrepl_words::commands::Words;
+use vrepl_words::commands::join::Join;
+use vrepl_words::commands::show::Show;
 
 /// What such a command is asked for, with what was read of its inputs.
 #[derive(Drop)]

@@ -1,8 +1,7 @@
 //! The inputs of `check`, and the report on them.
 
 ghost use Rattle.std.specs.Prelude.{◌≡◌, ◌≢◌, ◌∷◌, map, IfErr, IfOk};
-ghost use Rattle.vrepl.specs.Asked.{IsCheckAsked};
-ghost use Rattle.vrepl.specs.Checked.{ReportEnds};
+ghost use Rattle.vrepl.specs.Checked.{IsCheckAsked, ReportEnds};
 ghost use Rattle.vrepl_main.specs.Inputs.{IsUnreadAmong};
 ghost use Rattle.vrepl_main.specs.declared.input.InputName.TheVariants.{File};
 
@@ -12,7 +11,7 @@ use printing::Out;
 use std::alloc::Global;
 use vrepl_check::{CheckInputs, check, print_place};
 use vrepl_main::{CommandRefusal, read_inputs, run_inputs};
-use vrepl_words::words::Check;
+use vrepl_words::commands::check::Check;
 
 /// Reads the inputs that the words name: the workflow's file, and the feeds' files in the order of the streams.
 pub(crate) fn read_check<'n, 'w>(

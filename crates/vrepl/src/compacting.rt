@@ -1,7 +1,7 @@
 //! The subcommand `compact` over files.
 
 ghost use Rattle.std.specs.Prelude.{◌≡◌, ◌≤◌, ◌∷◌, map, IfErr, IfOk};
-ghost use Rattle.vrepl.specs.Asked.{IsCompactAsked, unknown_asked};
+ghost use Rattle.vrepl.specs.Compacted.{IsCompactAsked, unknown_asked};
 ghost use Rattle.vrepl.specs.Kept.{IsUnkept};
 ghost use Rattle.vrepl_main.specs.Inputs.{IsUnreadAmong};
 ghost use Rattle.vrepl_main.specs.declared.input.InputName.TheVariants.{File};
@@ -16,7 +16,7 @@ use vrepl_compact::{
     CompactInputs, NewFeed, PlannedInputs, Uncompacted, compacted, planned, refuse_uncompacted,
 };
 use vrepl_main::{CommandRefusal, read_inputs, run_inputs};
-use vrepl_words::words::Compact;
+use vrepl_words::commands::compact::Compact;
 
 /// The same names.
 fn copied<'w>(alloc: Global, names: &[&'w str]) -> Result<Vec<&'w str>, AllocError>

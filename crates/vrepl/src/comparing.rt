@@ -1,8 +1,7 @@
 //! The inputs of `vdiff`, and their comparison.
 
 ghost use Rattle.std.specs.Prelude.{◌≡◌, ◌≢◌, ◌∷◌, [], false, IfErr, IfOk};
-ghost use Rattle.vrepl.specs.Asked.{IsVdiffAsked, detail_asked, is_other, options_asked};
-ghost use Rattle.vrepl.specs.Compared.{ComparedEnds, asks_more, is_detailed, is_json};
+ghost use Rattle.vrepl.specs.Compared.{ComparedEnds, IsVdiffAsked, asks_more, detail_asked, is_detailed, is_json, is_other, options_asked};
 ghost use Rattle.vrepl_main.specs.Inputs.{IsUnreadAmong, is_standard, input_name};
 ghost use Rattle.vrepl_main.specs.declared.input.InputName.TheVariants.{File};
 
@@ -13,7 +12,7 @@ use std::alloc::Global;
 use vrepl_choices::ReportForm;
 use vrepl_main::{CommandRefusal, InputName, read_input, vdiff};
 use vrepl_vdiff::{Detail, Dump, Options, VdiffInputs, vdiff_with};
-use vrepl_words::words::Vdiff;
+use vrepl_words::commands::vdiff::Vdiff;
 
 /// Reads the inputs that the words name: the workflow's file, and the dumps, of which standard input is the first that
 /// is `-`.

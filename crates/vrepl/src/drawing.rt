@@ -3,7 +3,7 @@
 use std::alloc::{AllocError, Global};
 use std::env;
 use std::io::IsTerminal;
-use vrepl_words::words::Telling;
+use vrepl_words::choices::Telling;
 
 /// What begins a line on a terminal: there, what is wider than the terminal doesn't go on in the next line.
 const BEGUN: &str = "\r\x1b[?7l";

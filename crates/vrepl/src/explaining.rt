@@ -12,7 +12,7 @@ use refusal_words::texts::explained;
 use vrepl_choices::ReportForm;
 use vrepl_main::CommandRefusal;
 use vrepl_refusal::refuse_as;
-use vrepl_words::words::Explain;
+use vrepl_words::commands::explain::Explain;
 
 /// Prints on `out` what is said of a refusal's number, or the list of all numbers, or prints the line of a
 /// refusal on `err`, each in the form that is asked for. Answers the status: 0, or 1 where `out` can't be written.

@@ -1,12 +1,12 @@
 //! The inputs of `feed`.
 
 ghost use Rattle.std.specs.Prelude.{IfErr, IfOk};
-ghost use Rattle.vrepl.specs.Asked.{IsFeedAsked, feed_inputs};
+ghost use Rattle.vrepl.specs.Fed.{IsFeedAsked, feed_inputs};
 ghost use Rattle.vrepl_main.specs.Inputs.{IsUnreadAmong};
 
 use vrepl_feed::FeedInputs;
 use vrepl_main::{CommandRefusal, InputName, Untold, read_input};
-use vrepl_words::words::Feed;
+use vrepl_words::commands::feed::Feed;
 
 /// Reads the inputs of `feed`: the workflow's file, where one is named, and the text from standard input.
 pub(crate) fn read_feed<'w>(

@@ -15,7 +15,7 @@ use vrepl_main::{
     CommandRefusal, FollowInputs, Followed, GivenFeed, InputName, Progress, RunCourse, Unfollowed,
     Untold, follow, follow_only, given_feeds, read_input, read_run, refuse_unfollowed,
 };
-use vrepl_words::words::Follow;
+use vrepl_words::commands::follow::Follow;
 
 /// The file behind standard output, where the system has names for such.
 const STANDARD_OUTPUT: &str = "/dev/stdout";

@@ -11,7 +11,8 @@ use vrepl_main::{
     CommandRefusal, Untold, joined_checkpoint, read_join, read_step, refuse, refuse_unjoined,
     saved_checkpoint, tell_refused,
 };
-use vrepl_words::words::{Join, Save};
+use vrepl_words::commands::join::Join;
+use vrepl_words::commands::save::Save;
 
 /// The file behind standard input, where the system has names for such.
 const STANDARD_INPUT: &str = "/dev/stdin";

@@ -18,7 +18,7 @@ use std::sync::Wait;
 use std::thread::Threads;
 use vrepl_live::{ArrivalFault, Arrivals, Arrived, LiveInputs, SaveFault, live};
 use vrepl_main::{CommandRefusal, InputName, RunCourse, Untold, read_input};
-use vrepl_words::words::Live;
+use vrepl_words::commands::live::Live;
 
 /// The file behind standard input, where the system has names for such.
 const STANDARD_INPUT: &str = "/dev/stdin";

@@ -7,7 +7,7 @@ use std::sync::atomic::{AtomicU64, Ordering};
 use std::time::Instant;
 use stream_worker::Gate;
 use vrepl_main::{Followed, Progress, Untold};
-use vrepl_words::words::Run;
+use vrepl_words::commands::run::Run;
 
 /// What tells how far streams are, and where they stand at the end.
 pub(crate) trait Report: Progress {

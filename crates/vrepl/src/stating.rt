@@ -13,7 +13,7 @@ use std::alloc::Global;
 use vrepl_choices::ReportForm;
 use vrepl_main::CommandRefusal;
 use vrepl_refusal::refuse_as;
-use vrepl_words::words::Status;
+use vrepl_words::commands::status::Status;
 
 /// The inputs of `status`.
 #[derive(Drop)]

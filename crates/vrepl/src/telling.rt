@@ -13,7 +13,7 @@ use std::thread::Threads;
 use std::time::{Duration, Instant};
 use std::{fs, thread};
 use vrepl_main::Reading;
-use vrepl_words::words::Words;
+use vrepl_words::commands::Words;
 
 /// The milliseconds between two looks at the work.
 const LOOK: u64 = 250;

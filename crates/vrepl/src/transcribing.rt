@@ -12,7 +12,7 @@ use printing::{Writer, put_all};
 use std::alloc::{AllocError, Global};
 use vrepl_main::{CommandRefusal, InputName, Source, Untold, read_input, read_inputs, run_inputs};
 use vrepl_transcribe::{TranscribeEnd, TranscribeInputs, Untranscribed, transcribe, transcribe_to};
-use vrepl_words::words::Transcribe;
+use vrepl_words::commands::transcribe::Transcribe;
 
 /// The logs' files of these names.
 #[derive(Drop)]

@@ -1,3 +1,4 @@
 pub mod Builders
 pub mod MetSubcommand
+pub mod ReadWords
 pub mod TakenWords

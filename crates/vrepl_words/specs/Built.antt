@@ -5,7 +5,7 @@ use Rattle.clap.specs.Simple.{new_shape}
 use Rattle.clap.specs.declared.builder.arg.Arg.{Arg}
 use Rattle.clap.specs.declared.builder.command.Command.{Command}
 use Rattle.clap.specs.declared.builder.command.Command.TheViews.{out-Command}
-use Rattle.vrepl_words.specs.Words.{Subcommand, shape_of_subcommand}
+use Rattle.vrepl_words.specs.Subcommand.{Subcommand, shape_of_subcommand}
 
 -- the argument is this one, for its own command alone
 abbrev pub HasRule : Rule → Arg → Type 0
@@ -16,7 +16,7 @@ abbrev pub HasApp : App → Command → Type 0
 HasApp app command = (app_of command ≡ app) × ((out-Command command).has_globals ≡ false)
 
 -- the command is this subcommand
-abbrev pub IsSubcommand : Subcommand → Command → Type 0
+abbrev pub IsSubcommand : {V : Type 0} → Subcommand V → Command → Type 0
 IsSubcommand sub command = HasApp (record { top = shape_of_subcommand sub; subs = [] }) command
 
 -- the program's command without its subcommands

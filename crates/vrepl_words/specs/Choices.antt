@@ -8,8 +8,8 @@ use Rattle.vrepl_choices.specs.declared.report_form.ReportForm.TheVariants.{Line
 use Rattle.vrepl_choices.specs.declared.threading.Threading.{Threading}
 use Rattle.vrepl_choices.specs.declared.threading.Threading.TheVariants.{Alone, Parallel}
 use Rattle.vrepl_words.specs.Arguments.{is_given}
-use Rattle.vrepl_words.specs.declared.words.Telling.{Telling}
-use Rattle.vrepl_words.specs.declared.words.Telling.TheVariants.{OnTerminal, Always, Never}
+use Rattle.vrepl_words.specs.declared.choices.Telling.{Telling}
+use Rattle.vrepl_words.specs.declared.choices.Telling.TheVariants.{OnTerminal, Always, Never}
 
 -- with `--hex` feeds are hexadecimal text
 abbrev pub feed_form_given : List Row → FeedForm

@@ -1,7 +1,9 @@
 pub mod Arguments
 pub mod Built
 pub mod Choices
-pub mod Meant
+pub mod Portions
+pub mod Subcommand
 pub mod Untils
 pub mod Usage
 pub mod Words
+pub mod commands

@@ -5,9 +5,19 @@ ghost use Rattle.clap.specs.Words.{found_of, rows_of};
 ghost use Rattle.vrepl_words.specs.Choices.{feed_form_given, report_form_given, telling_given, threading_given};
 
 use crate::given::has_flag;
-use crate::words::Telling;
 use clap::ArgMatches;
 use vrepl_choices::{FeedForm, ReportForm, Threading};
+
+/// Whether a command tells on its way, on standard error, how far it is.
+#[derive(Clone, Copy, Debug, PartialEq, Eq)]
+pub enum Telling {
+    /// Where that is a terminal.
+    OnTerminal,
+    /// Wherever it goes.
+    Always,
+    /// Never.
+    Never,
+}
 
 /// How feeds are given: as hexadecimal text with `--hex`.
 pub(crate) fn feed_form_given(given: &ArgMatches<'_>) -> FeedForm

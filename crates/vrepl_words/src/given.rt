@@ -3,8 +3,7 @@
 ghost use Rattle.std.specs.Prelude.{◌≡◌, ◌≤◌, IfOk, IfSome, map, option_map};
 ghost use Rattle.clap.specs.Words.{first_of, found_of, rows_of};
 ghost use Rattle.vrepl_words.specs.Arguments.{is_given, portion_given, portion_of, text_given, texts_given};
-ghost use Rattle.vrepl_words.specs.Meant.{portions_value};
-ghost use Rattle.vrepl_words.specs.Words.{portions_given};
+ghost use Rattle.vrepl_words.specs.Portions.{portions_given, portions_value};
 
 use crate::portions::Portions;
 use clap::ArgMatches;

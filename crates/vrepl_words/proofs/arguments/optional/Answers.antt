@@ -1,0 +1,11 @@
+use Rattle.std.proofs.Common.{◌∙◌, ap}
+use Rattle.clap.specs.Words.{Rule, rule_of}
+use Rattle.clap.specs.declared.builder.arg.Arg.{Arg}
+use Rattle.vrepl_words.proofs.arguments.optional.Goals as goal
+
+pub returns : goal.returns
+returns c = (
+  ap rule_of c.help.ensures ∙ ap rule_of c.value_name.ensures
+      ∙ ap (λ (r : Rule). record r { value_names = 1 }) c.new.ensures.rule,
+  ap (λ (a : Arg). a.global) c.help.ensures ∙ ap (λ (a : Arg). a.global) c.value_name.ensures ∙ c.new.ensures.optional.1,
+)

@@ -1,4 +1,0 @@
-use Rattle.vrepl_words.proofs.commands.with_telling.Goals as goal
-
-pub returns : goal.returns
-returns c = λ app has. c.with_arg.ensures _ _ (c.with_arg-command.ensures app _ has c.flag.ensures) c.flag-2.ensures

@@ -1,5 +1,0 @@
-use Rattle.std.proofs.Common.{refl}
-use Rattle.vrepl_words.proofs.reading.live_of.Goals as goal
-
-pub returns : goal.returns
-returns c = rw (c.threading_given.ensures, c.text_if.ensures, c.text_if-2.ensures, c.text.ensures) refl

@@ -1,5 +1,0 @@
-use Rattle.std.proofs.Common.{refl}
-use Rattle.vrepl_words.proofs.reading.run_of.Goals as goal
-
-pub returns : goal.returns
-returns c = rw (c.feed_form_given.ensures, c.threading_given.ensures, c.telling_given.ensures, c.in_ok-until.ensures, c.text.ensures, c.in_ok-feeds.ensures) refl

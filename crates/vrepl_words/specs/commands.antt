@@ -1,0 +1,16 @@
+pub mod Check
+pub mod Compact
+pub mod Explain
+pub mod Feed
+pub mod Follow
+pub mod Join
+pub mod Live
+pub mod Resume
+pub mod Run
+pub mod Save
+pub mod Show
+pub mod Status
+pub mod Step
+pub mod Tiles
+pub mod Transcribe
+pub mod Vdiff
