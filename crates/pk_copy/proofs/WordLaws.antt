@@ -1,9 +1,10 @@
 -- The number that a text's first bytes spell keeps the order of texts.
-use Rattle.std.proofs.Common.{◌≡◌, ℕ, zero, suc, ◌+◌, ◌*◌, ◌^◌, ◌<◌, ◌≤◌, List, [], ◌∷◌, refl, sym, ap, arith}
+use Rattle.std.proofs.Common.{◌≡◌, ℕ, zero, suc, ◌+◌, ◌*◌, ◌^◌, ◌<◌, ◌≤◌, List, [], ◌∷◌, length, drop, refl, sym, ap, ◌∙◌, arith}
 use Rattle.std.specs.Cmp.Lexicographic.{slice_cmp}
 use Rattle.std.specs.Ordering.{nat_cmp, ordering_then}
-use Rattle.std.proofs.lemmas.Cmp.{ranked}
-use Rattle.std.proofs.lemmas.Nat.{mul-le}
+use Rattle.std.proofs.lemmas.Cmp.{ranked, tied_itself}
+use Rattle.std.specs.Cmp.{nat_cmp_total}
+use Rattle.std.proofs.lemmas.Nat.{mul-le, same_from_place}
 use Rattle.std.specs.declared.cmp.Ordering.{Ordering}
 use Rattle.std.specs.declared.cmp.Ordering.TheVariants.{Less, Equal, Greater}
 use Rattle.pk_copy.specs.KeyFront.{word, BeginsInBytes}
@@ -53,3 +54,14 @@ words_in_order (suc n) [] (y ∷ ys) are less = refl
 words_in_order (suc n) (x ∷ xs) (y ∷ ys) are less =
     by_first x y (nat_cmp x y) (slice_cmp nat_cmp xs ys) refl (first_digits (256 ^ n) x y (word n xs) (word n ys) (word_below n ys are.1) less)
     (λ same. words_in_order n xs ys are.1 (rest_less (256 ^ n) x y (word n xs) (word n ys) same less))
+
+-- texts that begin with one word are in the order of what stands behind it
+pub words_tie : (n : ℕ) (xs ys : List ℕ) → n ≤ length xs → n ≤ length ys → BeginsInBytes n xs → BeginsInBytes n ys → word n xs ≡ word n ys
+    → slice_cmp nat_cmp xs ys ≡ slice_cmp nat_cmp (drop n xs) (drop n ys)
+words_tie zero xs ys long longer are others same = refl
+words_tie (suc n) [] ys long longer are others same = absurd (omega (arith, long))
+words_tie (suc n) (x ∷ xs) [] long longer are others same = absurd (omega (arith, longer))
+words_tie (suc n) (x ∷ xs) (y ∷ ys) long longer are others same =
+    let parts = same_from_place x (word n xs) y (word n ys) (256 ^ n) (word_below n xs are.1) (word_below n ys others.1) same in
+    let tie : nat_cmp x y ≡ Equal = ap (λ (z : ℕ). nat_cmp x z) (sym parts.0) ∙ tied_itself nat_cmp_total x in
+    ap (λ (o : Ordering). ordering_then o (slice_cmp nat_cmp xs ys)) tie ∙ words_tie n xs ys (omega (arith, long)) (omega (arith, longer)) are.1 others.1 parts.1

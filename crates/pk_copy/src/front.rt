@@ -37,7 +37,7 @@ fn padded_at(text: &[u8], place: usize) -> u8
 }
 
 /// The number that the first eight bytes of a text spell, the first the highest, zeros behind a shorter text.
-fn word_of(text: &[u8]) -> u64
+pub(crate) fn word_of(text: &[u8]) -> u64
     ensures spelled { result ≡ word 8 text.now }
     ensures in_bytes { BeginsInBytes 8 text.now }
 {

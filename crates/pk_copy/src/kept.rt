@@ -12,6 +12,7 @@ use crate::lent_kept::{LentKept, LentRest};
 use crate::owned::OwnedPart;
 use crate::part::KeyPart;
 use crate::small_part::SmallPart;
+use crate::texts::text_order;
 use crate::view::KeyView;
 use arrayvec::ArrayVec;
 use std::alloc::{AllocError, Global};
@@ -300,9 +301,9 @@ fn compare_behind(one: &KeptKey, other: &KeptKey) -> Ordering
         (KeptRest::Natural(_), KeptRest::Natural(_)) => Ordering::Equal,
         (KeptRest::Negative(_), KeptRest::Negative(_)) => Ordering::Equal,
         (KeptRest::Short(m, _, x), KeptRest::Short(n, _, y)) => {
-            x[..usize::from(*m)].cmp(&y[..usize::from(*n)])
+            text_order(&x[..usize::from(*m)], &y[..usize::from(*n)])
         }
-        (KeptRest::Long(_, x), KeptRest::Long(_, y)) => x.as_slice().cmp(y.as_slice()),
+        (KeptRest::Long(_, x), KeptRest::Long(_, y)) => text_order(x.as_slice(), y.as_slice()),
         (KeptRest::Several(_, x), KeptRest::Several(_, y)) => x.as_slice().cmp(y.as_slice()),
         _ => compare_views(one, other),
     }

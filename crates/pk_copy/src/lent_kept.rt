@@ -10,6 +10,7 @@ ghost use Rattle.pk_copy.specs.SmallPartValue.{small_value, lent_key, lent_lead,
 use crate::front::{Front, decided};
 use crate::part::KeyPart;
 use crate::small_part::SmallPart;
+use crate::texts::text_order;
 use crate::view::KeyView;
 use arrayvec::ArrayVec;
 use std::alloc::{AllocError, Global};
@@ -207,7 +208,17 @@ impl<'b> LentKept<'b> {
     }
 }
 
-/// The order of two keys with one front.
+/// The order of two keys, by their views.
+#[inline(never)]
+fn compare_views(one: &LentKept<'_>, other: &LentKept<'_>) -> Ordering
+    requires one { IsLent one.now }
+    requires other { IsLent other.now }
+    ensures { result ≡ key_cmp (lent_key one.now) (lent_key other.now) }
+{
+    one.view().cmp(&other.view())
+}
+
+/// The order of two keys with one front. Views, which are large, are made of keys of unlike forms alone.
 #[inline(never)]
 fn compare_behind(one: &LentKept<'_>, other: &LentKept<'_>) -> Ordering
     requires one { IsLent one.now }
@@ -219,9 +230,9 @@ fn compare_behind(one: &LentKept<'_>, other: &LentKept<'_>) -> Ordering
     match (&one.rest, &other.rest) {
         (LentRest::Natural(_), LentRest::Natural(_)) => Ordering::Equal,
         (LentRest::Negative(_), LentRest::Negative(_)) => Ordering::Equal,
-        (LentRest::Text(_, x), LentRest::Text(_, y)) => x.cmp(y),
+        (LentRest::Text(_, x), LentRest::Text(_, y)) => text_order(x, y),
         (LentRest::Several(_, x), LentRest::Several(_, y)) => x.as_slice().cmp(y.as_slice()),
-        _ => one.view().cmp(&other.view()),
+        _ => compare_views(one, other),
     }
 }
 

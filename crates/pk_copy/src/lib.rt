@@ -18,6 +18,7 @@ mod owned;
 mod part;
 mod reading;
 mod small_part;
+mod texts;
 mod view;
 mod written_key;
 

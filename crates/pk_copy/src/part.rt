@@ -5,6 +5,7 @@ ghost use Rattle.std.specs.Ordering.{eq_by_cmp, as_partial_cmp, on};
 ghost use Rattle.std.specs.Cmp.{on_total, partial_equiv_from_equiv, eq_by_cmp_equiv, partial_order_from_total};
 ghost use Rattle.pk_copy.specs.KeyOrder.{part_cmp};
 
+use crate::texts::text_order;
 use std::cmp::Ordering;
 
 /// A part of a key: the number of a whole-number column, from -2^63 to 2^64 - 1, or the bytes of another
@@ -82,7 +83,7 @@ impl Ord for KeyPart<'_> {
             (KeyPart::Number(a), KeyPart::Number(b)) => a.cmp(b),
             (KeyPart::Number(_), KeyPart::Bytes(_)) => Ordering::Less,
             (KeyPart::Bytes(_), KeyPart::Number(_)) => Ordering::Greater,
-            (KeyPart::Bytes(a), KeyPart::Bytes(b)) => a.cmp(b),
+            (KeyPart::Bytes(a), KeyPart::Bytes(b)) => text_order(a, b),
         }
     }
 }

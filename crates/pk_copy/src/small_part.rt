@@ -7,6 +7,7 @@ ghost use Rattle.pk_copy.specs.KeyValue.{IsPart};
 ghost use Rattle.pk_copy.specs.KeyOrder.{part_cmp};
 
 use crate::part::KeyPart;
+use crate::texts::text_order;
 use std::cmp::Ordering;
 
 /// A part of a key, lent, whose number lies in 8 bytes. Equal and ordered as the part that it lends.
@@ -102,7 +103,7 @@ impl Ord for SmallPart<'_> {
             (SmallPart::Natural(a), SmallPart::Natural(b)) => a.cmp(b),
             (SmallPart::Natural(_), SmallPart::Bytes(_)) => Ordering::Less,
             (SmallPart::Bytes(_), SmallPart::Natural(_)) => Ordering::Greater,
-            (SmallPart::Bytes(a), SmallPart::Bytes(b)) => a.cmp(b),
+            (SmallPart::Bytes(a), SmallPart::Bytes(b)) => text_order(a, b),
         }
     }
 }

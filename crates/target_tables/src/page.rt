@@ -210,7 +210,9 @@ impl<K: Fronted, R> Page<K, R> {
         ensures { self.new ≡ self.old ++ entry ∷ [] }
     {
         self.entries.push_reserved(entry);
-        self.front = front_of(&self.entries);
+        if self.entries.len() == 1 {
+            self.front = front_of(&self.entries);
+        }
     }
 
     /// Moves the entries with lesser keys of a page that is the other way round behind its own. Takes no memory.
@@ -220,6 +222,9 @@ impl<K: Fronted, R> Page<K, R> {
         ensures count { length self.new + length above.new ≡ length self.old + length above.old }
         ensures below { AreBelow K.cmp key.now self.old → AreBelow K.cmp key.now self.new }
     {
+        if above.entries.is_empty() {
+            return;
+        }
         move_lesser(&mut self.entries, &mut above.entries, key);
         self.front = front_of(&self.entries);
         above.front = front_of(&above.entries);
