@@ -1,6 +1,6 @@
 //! The workflow and the feed of a stream, as they are given.
 
-ghost use Rattle.std.specs.Prelude.{◌≡◌, Some, Err, IfErr, IfOk, IsErr, Ok, map, slice_get};
+ghost use Rattle.std.specs.Prelude.{◌≡◌, Some, Err, IfErr, IfOk, IsErr, IsSome, Ok, map, slice_get};
 ghost use Rattle.std.specs.Option.{option_copied};
 ghost use Rattle.std.specs.Arc.{arc_value};
 ghost use Rattle.filter_rule.specs.Reading.{IsSomeText, plans_of};
@@ -88,7 +88,7 @@ fn given_feed<'f>(
     feed: &'f [u8],
 ) -> Result<GivenFeed<'f>, AllocError>
     ensures given { IfOk result (λ given. given_value given ≡ feed_bytes form feed.entry.now) }
-    ensures memory { IsErr result → form ≡ FeedForm.Hex }
+    ensures memory { IsErr result → (form ≡ FeedForm.Hex) × IsSome (hex_bytes feed.entry.now) }
 {
     match form {
         FeedForm::Bytes => Ok(GivenFeed::Bytes(feed)),
@@ -96,9 +96,10 @@ fn given_feed<'f>(
     }
 }
 
-/// The bytes of a feed that is given as hexadecimal text. An error is want of memory.
+/// The bytes of a feed that is given as hexadecimal text. An error is want of memory, told of hexadecimal text alone.
 fn decoded<'f>(alloc: Global, feed: &[u8]) -> Result<GivenFeed<'f>, AllocError>
-    ensures { IfOk result (λ given. given_value given ≡ hex_bytes feed.now) }
+    ensures given { IfOk result (λ given. given_value given ≡ hex_bytes feed.now) }
+    ensures memory { IsErr result → IsSome (hex_bytes feed.now) }
 {
     match bytes_of_hex(alloc, feed) {
         Ok(bytes) => Ok(GivenFeed::Decoded(bytes)),

@@ -1,7 +1,7 @@
 -- How the bytes of hexadecimal text follow from what was read so far and from the rest.
-use Rattle.std.proofs.Common.{◌≡◌, ◌∙◌, ap, sym, ℕ, ◌+◌, ◌*◌, ◌<◌, false, List, [], ◌∷◌, ◌++◌, length, drop, get_or, refl, append_assoc}
+use Rattle.std.proofs.Common.{◌≡◌, ◌∙◌, ap, sym, ℕ, ◌+◌, ◌*◌, ◌<◌, false, true, List, [], ◌∷◌, ◌++◌, length, drop, get_or, refl, append_assoc}
 use Rattle.std.proofs.lemmas.List.{append-nil, drop_more}
-use Rattle.std.specs.Prelude.{Option, Some, None}
+use Rattle.std.specs.Prelude.{Option, Some, None, is_some}
 use Rattle.std.specs.Option.{option_map}
 use Rattle.vrepl_main.specs.HexText.{hex_text_digit, digits_of, hex_bytes, is_skipped_byte, with_hex_byte, paired}
 
@@ -60,3 +60,42 @@ end-whole bytes = ap Some (append-nil bytes)
 pub end-left_over : (bytes : List ℕ) (high : ℕ) → after bytes (paired (Some high ∷ [])) ≡ None
 unfolding paired
 end-left_over bytes high = refl
+
+-- ---- whether text spells bytes, over one more character
+
+-- the next character that counts
+next-digit : (text : List ℕ) (i : ℕ) → i < length text → is_skipped_byte (get_or text i 0) ≡ false → digits_of (drop i text) ≡ hex_text_digit (get_or text i 0) ∷ digits_of (drop (i + 1) text)
+next-digit text i h s = ap digits_of (drop_more text i 0 h) ∙ digits-read (get_or text i 0) (drop (i + 1) text) s
+
+-- whether bytes are spelled doesn't hang on the bytes before them
+is_some-pair : (high low : ℕ) (rest : Option (List ℕ)) → is_some (with_hex_byte (Some high) (Some low) rest) ≡ is_some rest
+is_some-pair high low None = refl
+is_some-pair high low (Some xs) = refl
+
+is_some-paired : (high low : ℕ) (rest : List (Option ℕ)) → is_some (paired (Some high ∷ Some low ∷ rest)) ≡ is_some (paired rest)
+unfolding paired
+is_some-paired high low rest = is_some-pair high low (paired rest)
+
+pub spells-no_digit : (text : List ℕ) (high : Option ℕ) (i : ℕ) → i < length text → is_skipped_byte (get_or text i 0) ≡ false → hex_text_digit (get_or text i 0) ≡ None → is_some (hex_bytes text) ≡ is_some (paired (waiting high ++ digits_of (drop i text))) → is_some (hex_bytes text) ≡ false
+spells-no_digit text high i h s d known =
+    known
+    ∙ ap (λ xs. is_some (paired (waiting high ++ xs))) (next-digit text i h s ∙ ap (λ x. x ∷ digits_of (drop (i + 1) text)) d)
+    ∙ ap is_some (paired-no_digit high (digits_of (drop (i + 1) text)))
+
+pub spells-high : (text : List ℕ) (digit i : ℕ) → i < length text → is_skipped_byte (get_or text i 0) ≡ false → hex_text_digit (get_or text i 0) ≡ Some digit → is_some (hex_bytes text) ≡ is_some (paired (digits_of (drop i text))) → is_some (hex_bytes text) ≡ is_some (paired (Some digit ∷ digits_of (drop (i + 1) text)))
+spells-high text digit i h s d known =
+    known ∙ ap (λ xs. is_some (paired xs)) (next-digit text i h s ∙ ap (λ x. x ∷ digits_of (drop (i + 1) text)) d)
+
+pub spells-low : (text : List ℕ) (high digit i : ℕ) → i < length text → is_skipped_byte (get_or text i 0) ≡ false → hex_text_digit (get_or text i 0) ≡ Some digit → is_some (hex_bytes text) ≡ is_some (paired (Some high ∷ digits_of (drop i text))) → is_some (hex_bytes text) ≡ is_some (paired (digits_of (drop (i + 1) text)))
+spells-low text high digit i h s d known =
+    known
+    ∙ ap (λ xs. is_some (paired (Some high ∷ xs))) (next-digit text i h s ∙ ap (λ x. x ∷ digits_of (drop (i + 1) text)) d)
+    ∙ is_some-paired high digit (digits_of (drop (i + 1) text))
+
+pub spells-whole : is_some (paired []) ≡ true
+unfolding paired
+spells-whole = refl
+
+pub spells-left_over : (high : ℕ) → is_some (paired (Some high ∷ [])) ≡ false
+unfolding paired
+spells-left_over high = refl

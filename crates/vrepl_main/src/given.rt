@@ -1,6 +1,6 @@
 //! Feeds as they are given: bytes, or hexadecimal text.
 
-ghost use Rattle.std.specs.Prelude.{◌≡◌, IfOk, map};
+ghost use Rattle.std.specs.Prelude.{◌≡◌, IfOk, IsErr, IsSome, map};
 ghost use Rattle.std.specs.Option.{option_map};
 ghost use Rattle.vrepl_main.specs.Given.{given_value};
 ghost use Rattle.vrepl_main.specs.HexText.{feed_bytes, hex_bytes};
@@ -48,13 +48,14 @@ pub fn given_feeds<'f>(
     Ok(given)
 }
 
-/// The bytes of a feed. An error is want of memory.
+/// The bytes of a feed. An error is want of memory, which is taken for hexadecimal text alone.
 fn given_feed<'f>(
     alloc: Global,
     form: FeedForm,
     feed: &'f [u8],
 ) -> Result<GivenFeed<'f>, AllocError>
-    ensures { IfOk result (λ given. given_value given ≡ feed_bytes form feed.entry.now) }
+    ensures given { IfOk result (λ given. given_value given ≡ feed_bytes form feed.entry.now) }
+    ensures memory { IsErr result → (form ≡ FeedForm.Hex) × IsSome (hex_bytes feed.entry.now) }
 {
     match form {
         FeedForm::Bytes => Ok(GivenFeed::Bytes(feed)),
@@ -62,9 +63,10 @@ fn given_feed<'f>(
     }
 }
 
-/// The bytes of a feed that is given as hexadecimal text. An error is want of memory.
+/// The bytes of a feed that is given as hexadecimal text. An error is want of memory, told of hexadecimal text alone.
 fn decoded<'f>(alloc: Global, feed: &[u8]) -> Result<GivenFeed<'f>, AllocError>
-    ensures { IfOk result (λ given. given_value given ≡ hex_bytes feed.now) }
+    ensures given { IfOk result (λ given. given_value given ≡ hex_bytes feed.now) }
+    ensures memory { IsErr result → IsSome (hex_bytes feed.now) }
 {
     match bytes_of_hex(alloc, feed) {
         Ok(bytes) => Ok(GivenFeed::Decoded(bytes)),

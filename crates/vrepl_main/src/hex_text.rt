@@ -1,6 +1,6 @@
 //! Hexadecimal text of feeds.
 
-ghost use Rattle.std.specs.Prelude.{◌≡◌, IfOk, IfSome, ◌<◌};
+ghost use Rattle.std.specs.Prelude.{◌≡◌, IfOk, IfSome, IsSome, is_some, ◌<◌};
 ghost use Rattle.vrepl_main.specs.HexText.{hex_text_digit, hex_bytes, is_skipped_byte};
 ghost use Rattle.vrepl_main.specs.declared.hex_text.HexFault.TheVariants.{Memory};
 
@@ -31,6 +31,20 @@ impl<T: Drop> From<AllocFailed<T>> for HexFault {
 pub fn bytes_of_hex(alloc: Global, text: &[u8]) -> Result<Vec<u8>, HexFault>
     ensures value { IfOk result (λ bytes. hex_bytes text.now ≡ Some bytes.items) }
     ensures bad { result ≡ Err HexFault.BadHex → hex_bytes text.now ≡ None }
+    // Want of memory is told of hexadecimal text alone.
+    ensures memory { result ≡ Err HexFault.Memory → IsSome (hex_bytes text.now) }
+{
+    match spelled(alloc, text) {
+        Ok(bytes) => Ok(bytes),
+        Err(HexFault::BadHex) => Err(HexFault::BadHex),
+        Err(HexFault::Memory) => Err(fault_without_memory(text)),
+    }
+}
+
+/// The same, where want of memory is told of any text.
+fn spelled(alloc: Global, text: &[u8]) -> Result<Vec<u8>, HexFault>
+    ensures value { IfOk result (λ bytes. hex_bytes text.now ≡ Some bytes.items) }
+    ensures bad { result ≡ Err HexFault.BadHex → hex_bytes text.now ≡ None }
 {
     let mut bytes = Vec::new(alloc);
     let mut high: Option<u8> = None;
@@ -52,6 +66,41 @@ pub fn bytes_of_hex(alloc: Global, text: &[u8]) -> Result<Vec<u8>, HexFault>
     match high {
         None => Ok(bytes),
         Some(_) => Err(HexFault::BadHex),
+    }
+}
+
+/// Why text is not read where a growth of memory was refused before its end was seen. Takes no memory.
+fn fault_without_memory(text: &[u8]) -> HexFault
+    ensures bad { result ≡ HexFault.BadHex → hex_bytes text.now ≡ None }
+    ensures memory { result ≡ HexFault.Memory → IsSome (hex_bytes text.now) }
+{
+    if spells_bytes(text) {
+        HexFault::Memory
+    } else {
+        HexFault::BadHex
+    }
+}
+
+/// Whether the text spells bytes.
+fn spells_bytes(text: &[u8]) -> bool
+    ensures { result ≡ is_some (hex_bytes text.now) }
+{
+    let mut high: Option<u8> = None;
+    for character in text {
+        if stands_for_nothing(*character) {
+            continue;
+        }
+        let Some(digit) = digit_value(*character) else {
+            return false;
+        };
+        match high {
+            None => high = Some(digit),
+            Some(_) => high = None,
+        }
+    }
+    match high {
+        None => true,
+        Some(_) => false,
     }
 }
 

@@ -3,8 +3,8 @@ use Rattle.std.proofs.lemmas.List.{drop_all}
 use Rattle.std.specs.Prelude.{Option, Some, None}
 use Rattle.vrepl_main.specs.HexText.{hex_text_digit, digits_of, is_skipped_byte, paired}
 use Rattle.vrepl_main.proofs.HexLaws.{after, waiting, step-no_digit, step-high, step-low, end-whole, end-left_over}
-use Rattle.vrepl_main.proofs.hex_text.bytes_of_hex.Goals as goal
-use Rattle.vrepl_main.proofs.hex_text.bytes_of_hex.Goals.{in-None, in-Some-high+in_ok-push-in-Some-high}
+use Rattle.vrepl_main.proofs.hex_text.spelled.Goals as goal
+use Rattle.vrepl_main.proofs.hex_text.spelled.Goals.{in-None, in-Some-high+in_ok-push-in-Some-high}
 
 pub returns-in_default-clause-bad : goal.returns-in_default-clause-bad
 returns-in_default-clause-bad c =

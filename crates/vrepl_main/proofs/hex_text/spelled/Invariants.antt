@@ -2,7 +2,7 @@ use Rattle.std.proofs.Common.{◌≡◌, ◌<◌, ◌++◌, drop}
 use Rattle.std.specs.Prelude.{IfSome}
 use Rattle.vrepl_main.specs.HexText.{digits_of, hex_bytes, paired}
 use Rattle.vrepl_main.proofs.HexLaws.{after, waiting}
-use Rattle.vrepl_main.proofs.hex_text.bytes_of_hex.Given as goal
+use Rattle.vrepl_main.proofs.hex_text.spelled.Given as goal
 
 abbrev pub invariant-loop-character : goal.invariant-loop-character
 invariant-loop-character l =
