@@ -3,3 +3,5 @@ pub mod CrcAhead
 pub mod CrcLaws
 pub mod EventLaws
 pub mod LogLaws
+pub mod CutLaws
+mod Examples

@@ -7,4 +7,5 @@ pub mod Step
 pub mod Transaction
 pub mod Calls
 pub mod Group
+pub mod Cuts
 pub mod GroupCalls
