@@ -34,7 +34,7 @@ from concurrent.futures import ThreadPoolExecutor
 sys.path.append(os.path.join(os.path.dirname(os.path.abspath(__file__)), "..", "record"))
 
 import preloaded
-from model.binlog import History
+from model.binlog import ALONE, DDL, History, Log
 from recorder import wire
 
 ROOM = tempfile.TemporaryDirectory(prefix="vrepl-transcribe-")
@@ -192,6 +192,16 @@ class Trial:
         wants(status == 1 and not out and line and int(line[1]) == (148 if more else 149) and line[4].decode() == table["name"], ("altered", ran))
         wants((int(line[2][4:]), int(line[3])) in self.history.starts, ("no transaction's beginning", ran, self.history.starts))
 
+    def selected(self) -> None:
+        """A table that is made of what a statement selects has rows that no event has."""
+        log, table = Log({}, self.history.checked), self.r.choice(self.history.tables)
+        log.gtid(0, 1, ALONE | DDL)
+        begin, make = log.places[-1], self.r.choice([b"CREATE TABLE ", b"create or replace table ", b"CREATE  TABLE IF NOT EXISTS "])
+        log.query(make + table.name + b" (id bigint primary key) " + self.r.choice([b"SELECT", b"as select"]) + b" 7 AS id", self.history.schema_there)
+        name = self.place.put("log.9", bytes(log.data))
+        line = self.line(self.made([name]), {152}, name)
+        wants(int(line[3]) == begin and line[4] == table.name, ("selected", line))
+
     def after(self, feed: bytes, names: list[str], workflow: str = "workflow", words: tuple = ()) -> tuple[int, bytes, bytes]:
         self.place.put("had", feed)
         ran = self.made(names, workflow, ("--after=had", *words))
@@ -264,6 +274,7 @@ class Trial:
             self.turned()
         self.reversed()
         self.altered()
+        self.selected()
         self.growths()
 
 

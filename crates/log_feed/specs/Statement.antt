@@ -48,9 +48,14 @@ drops_schema schema text = begins_by_word (codes "DROP") text && (has_word (code
 unfoldable pub concerns : List ℕ → List ℕ → List ℕ → Bool
 concerns schema name text = has_word name text || drops_schema schema text
 
--- rows may come into the table that no event has: those of a table that is renamed, exchanged, imported or converted
+-- it makes a table of rows that it selects
+unfoldable pub selects : List ℕ → Bool
+selects text = has_word (codes "CREATE") text && has_word (codes "TABLE") text && has_word (codes "SELECT") text
+
+-- rows may come into the table that no event has: those of a table that is renamed, exchanged, imported or converted, or that
+-- are selected
 unfoldable pub moves_rows : List ℕ → Bool
-moves_rows text = has_word (codes "RENAME") text || has_word (codes "EXCHANGE") text || has_word (codes "IMPORT") text || has_word (codes "CONVERT") text
+moves_rows text = has_word (codes "RENAME") text || has_word (codes "EXCHANGE") text || has_word (codes "IMPORT") text || has_word (codes "CONVERT") text || selects text
 
 -- ---- what the table is behind it
 

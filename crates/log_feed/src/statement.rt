@@ -3,7 +3,7 @@
 ghost use Rattle.std.specs.Prelude.{◌≡◌, option_copied};
 ghost use Rattle.list_laws.specs.Outcome.{Gives};
 ghost use Rattle.log_groups.specs.Body.{query_value};
-ghost use Rattle.log_feed.specs.Statement.{behind_create, names_alone, names_within, names_table, makes, drops_schema, concerns, moves_rows, unfilled_to, alters_to};
+ghost use Rattle.log_feed.specs.Statement.{behind_create, names_alone, names_within, names_table, makes, drops_schema, concerns, selects, moves_rows, unfilled_to, alters_to};
 
 use crate::fault::Trouble;
 use crate::table::Stage;
@@ -83,6 +83,14 @@ fn concerns(schema: &[u8], name: &[u8], text: &[u8]) -> bool
     has_word(name, text) || drops_schema(schema, text)
 }
 
+/// Whether a statement makes a table of rows that it selects: a server that logs rows has it without its SELECT.
+#[tactic(auto, unfolding(crate::specs::Statement::selects))]
+fn selects(text: &[u8]) -> bool
+    ensures { result ≡ selects text.now }
+{
+    has_word(b"CREATE", text) && has_word(b"TABLE", text) && has_word(b"SELECT", text)
+}
+
 /// Whether rows may come into a table that no event has.
 #[tactic(auto, unfolding(crate::specs::Statement::moves_rows))]
 fn moves_rows(text: &[u8]) -> bool
@@ -92,6 +100,7 @@ fn moves_rows(text: &[u8]) -> bool
         || has_word(b"EXCHANGE", text)
         || has_word(b"IMPORT", text)
         || has_word(b"CONVERT", text)
+        || selects(text)
 }
 
 /// What a table without rows is behind a statement.
