@@ -1,5 +1,5 @@
--- The byte of a refusal: of which file it is, call by call; and a file's first bytes as they are counted.
-use Rattle.std.proofs.Common.{◌≡◌, ◌⊎◌, inl, inr, ℕ, ◌+◌, ◌≤◌, List, length, take, Option, None, Some, Result, Ok, Err, refl, sym, subst, ◌∙◌}
+-- The byte of a refusal: behind how many transactions it stands, call by call; and a file's first bytes as they are counted.
+use Rattle.std.proofs.Common.{◌≡◌, ℕ, ◌+◌, ◌≤◌, Bool, true, List, length, take, Option, None, Some, Result, Ok, Err, refl, sym, subst, ◌∙◌, arith}
 use Rattle.std.specs.Prelude.{is_some, false}
 use Rattle.log_events.specs.declared.fault.EventFault.{EventFault}
 use Rattle.log_events.specs.declared.fault.LogFault.{LogFault}
@@ -8,90 +8,48 @@ use Rattle.log_groups.specs.declared.fault.GroupFault.{GroupFault}
 use Rattle.log_groups.specs.declared.fault.GroupFault.TheVariants.{Unended}
 use Rattle.log_groups.specs.Step.{steps_of}
 use Rattle.log_groups.specs.Transaction.{transactions_of}
-use Rattle.source_feed.specs.declared.fault.FeedFault.{FeedFault}
-use Rattle.source_feed.specs.declared.fault.FeedFault.TheVariants as feed_fault
-use Rattle.log_transcribe.specs.declared.fault.LogsFault.{LogsFault}
+use Rattle.log_transcribe.specs.declared.fault.LogsError.{LogsError}
+use Rattle.log_transcribe.specs.declared.fault.LogsError.TheVariants as logs_error
 use Rattle.log_transcribe.specs.declared.fault.StreamError.{StreamError}
 use Rattle.log_transcribe.specs.declared.fault.StreamError.TheVariants as stop
 use Rattle.log_transcribe.specs.declared.byte.Cut.{Cut}
-use Rattle.log_transcribe.specs.declared.files.LogBytes.{LogBytes}
-use Rattle.log_transcribe.specs.Byte.{BeginsAt, EndsAt, FailsAt, GroupAt, IsByteOf, IsCut, MayGoOn}
-use Rattle.log_transcribe.specs.Fault.{file_of}
-use Rattle.log_transcribe.specs.Files.{log_bytes}
+use Rattle.log_transcribe.specs.Byte.{BeginsAt, EndsAt, FailsAt, GroupAt, IsCut, MayGoOn}
 use Rattle.log_transcribe.specs.Private.Cuts.{AreCuts, Follows, IsCutAt}
-use Rattle.log_transcribe.specs.Private.Opens.{Gave, OfFirst, OrFirst, stop_of}
-use Rattle.log_transcribe.specs.Private.Sends.{NoFile, OneFile, OrFile, Sending, Sends, StopsAt, TellsByte}
+use Rattle.log_transcribe.specs.Private.Sends.{CountsOne, CountsSent, IsOfLogs, Sending, Sends, StopsAt, TellsByte}
 
--- ---- which file gave the bytes
+-- ---- behind how many transactions
 
-module _ (A B : ℕ → List ℕ → Type 0) (more : (file : ℕ) (bytes : List ℕ) → A file bytes → B file bytes) where
-  byte_more : (fault : LogsFault) (byte : Option ℕ) → IsByteOf A fault byte → IsByteOf B fault byte
-  byte_more fault None is = tt
-  byte_more fault (Some byte) is = (is.0, more (file_of fault) is.0 is.1, is.2)
-
-  pub stops_more : (error : StreamError) → StopsAt A error → StopsAt B error
-  stops_more stop.Memory is = tt
-  stops_more stop.Unwritten is = tt
-  stops_more (stop.Unread file) is = tt
-  stops_more (stop.Feed fault) is = tt
-  stops_more (stop.Fault fault byte) is = byte_more fault byte is
-
-  pub tells_more : {X : Type 0} (answer : Result X StreamError) → TellsByte A answer → TellsByte B answer
-  tells_more (Ok x) is = tt
-  tells_more (Err error) is = stops_more error is
-
-module _ (Gives : ℕ → List ℕ → Type 0) where
-  -- an error of no file
-  pub stops_nowhere : (error : StreamError) → StopsAt NoFile error → StopsAt Gives error
-  stops_nowhere error is = stops_more NoFile Gives (λ file bytes none. absurd none) error is
-
+module _ (bytes : List ℕ) where
   -- a write that failed
-  pub sent_nowhere : (error : StreamError) (old new : Sending) → Sends (Err error) old new → StopsAt Gives error
-  sent_nowhere stop.Memory old new s = tt
-  sent_nowhere stop.Unwritten old new s = tt
-  sent_nowhere (stop.Unread file) old new s = tt
-  sent_nowhere (stop.Feed fault) old new s = tt
-  sent_nowhere (stop.Fault fault byte) old new s = absurd s
+  pub sent_nowhere : (told : Option ℕ) (error : StreamError) (old new : Sending) → Sends (Err error) old new → StopsAt bytes told error
+  sent_nowhere told stop.Memory old new s = tt
+  sent_nowhere told stop.Unwritten old new s = tt
+  sent_nowhere told (stop.Unread file) old new s = tt
+  sent_nowhere told (stop.Feed fault) old new s = tt
+  sent_nowhere told (stop.Fault fault byte) old new s = absurd s
 
-  pub sent_tells : (answer : Result (Unit {0}) StreamError) (old new : Sending) → Sends answer old new → TellsByte Gives answer
-  sent_tells (Ok x) old new s = tt
-  sent_tells (Err error) old new s = sent_nowhere error old new s
+  -- none more are told
+  stops_behind : (told behind : ℕ) (stops : StreamError) → behind ≡ 0 → StopsAt bytes (Some told) stops → StopsAt bytes (Some (told + behind)) stops
+  stops_behind told behind stops none is = subst (λ (n : ℕ). StopsAt bytes (Some n) stops) (omega (arith, none)) is
 
-  -- what is wrong with the feed
-  pub feed_nowhere : (fault : FeedFault) → StopsAt Gives (stop_of fault)
-  feed_nowhere feed_fault.Memory = tt
-  feed_nowhere fault = tt
+  pub stops_here : (told behind fewer : ℕ) (error : LogsError) (stops : StreamError) → IsOfLogs error stops → CountsOne (Err error) behind fewer → StopsAt bytes (Some told) stops → StopsAt bytes (Some (told + behind)) stops
+  stops_here told behind fewer logs_error.Memory stops of none is = rw of tt
+  stops_here told behind fewer (logs_error.Fault fault) stops of none is = stops_behind told behind stops none is
 
-  module _ (file : ℕ) (bytes : List ℕ) where
-    pub stops_there : (error : StreamError) → StopsAt (OneFile file bytes) error → StopsAt (OrFile file bytes Gives) error
-    stops_there error is = stops_more (OneFile file bytes) (OrFile file bytes Gives) (λ at log one. inl one) error is
+  -- behind as many as there are
+  pub stops_told : (told many : ℕ) (error : StreamError) → many ≡ told → StopsAt bytes (Some told) error → StopsAt bytes (Some many) error
+  stops_told told many error same is = subst (λ (n : ℕ). StopsAt bytes (Some n) error) (sym same) is
 
-    pub tells_others : {X : Type 0} (answer : Result X StreamError) → TellsByte Gives answer → TellsByte (OrFile file bytes Gives) answer
-    tells_others answer is = tells_more Gives (OrFile file bytes Gives) (λ at log gave. inr gave) answer is
+  pub tells_told : {X : Type 0} (one other : Option ℕ) (answer : Result X StreamError) → one ≡ other → TellsByte bytes other answer → TellsByte bytes one answer
+  tells_told one other answer same is = subst (λ (n : Option ℕ). TellsByte bytes n answer) (sym same) is
 
-    -- it gave these bytes
-    given : Gives file bytes → (at : ℕ) (log : List ℕ) → OrFile file bytes Gives at log → Gives at log
-    given gave at log (inl one) = subst (λ (k : ℕ). Gives k log) (sym one.0) (subst (λ (l : List ℕ). Gives file l) (sym one.1) gave)
-    given gave at log (inr other) = other
+pub sent_so : (more : Bool) (old new : ℕ) → CountsOne (Ok more) old new → CountsSent (Ok more) old new
+sent_so true old new c = c
+sent_so false old new c = tt
 
-    pub tells_given : {X : Type 0} (answer : Result X StreamError) → Gives file bytes → TellsByte (OrFile file bytes Gives) answer → TellsByte Gives answer
-    tells_given answer gave is = tells_more (OrFile file bytes Gives) Gives (given gave) answer is
-
-  -- of the first one, if there is one, and others
-  first_given : (log : Option LogBytes) → Gave Gives log → (at : ℕ) (bytes : List ℕ) → OrFirst log Gives at bytes → Gives at bytes
-  first_given None gave at bytes (inl one) = absurd one
-  first_given None gave at bytes (inr other) = other
-  first_given (Some log) gave at bytes (inl one) = given 0 (log_bytes log) gave at bytes (inl one)
-  first_given (Some log) gave at bytes (inr other) = other
-
-  pub stops_first : (log : Option LogBytes) → Gave Gives log → (error : StreamError) → StopsAt (OrFirst log Gives) error → StopsAt Gives error
-  stops_first log gave error is = stops_more (OrFirst log Gives) Gives (first_given log gave) error is
-
-  pub stops_alone : (log : Option LogBytes) → Gave Gives log → (error : StreamError) → StopsAt (OfFirst log) error → StopsAt Gives error
-  stops_alone log gave error is = stops_more (OfFirst log) Gives (λ at bytes one. first_given log gave at bytes (inl one)) error is
-
-  pub tells_first : {X : Type 0} (log : Option LogBytes) (answer : Result X StreamError) → TellsByte Gives answer → TellsByte (OrFirst log Gives) answer
-  tells_first log answer is = tells_more Gives (OrFirst log Gives) (λ at bytes gave. inr gave) answer is
+pub counts_on : (more : Bool) (told all old new many : ℕ) → more ≡ true → CountsSent (Ok more) old new → many ≡ told + old → all ≡ told + 1 → many ≡ all + new
+counts_on true told all old new many is c e next = omega (arith, c, e, next)
+counts_on false told all old new many is c e next = cc
 
 -- ---- a file's first bytes
 
@@ -156,6 +114,6 @@ ends_there bytes byte before log events fault is read many stops same = record {
   stops = stops;
 }
 
-pub unended_there : (bytes : List ℕ) (byte transactions : ℕ) (whole : Cut) → BeginsAt bytes byte transactions → IsCutAt bytes (length bytes) whole → whole.transactions ≡ transactions → whole.end ≡ Some Unended → GroupAt bytes Unended byte
+pub unended_there : (bytes : List ℕ) (byte transactions : ℕ) (whole : Cut) → BeginsAt bytes byte transactions → IsCutAt bytes (length bytes) whole → whole.transactions ≡ transactions → whole.end ≡ Some Unended → GroupAt bytes None Unended byte
 unended_there bytes byte transactions whole begins is same lasts =
     (transactions, whole.events, begins, as_wanted bytes (length bytes) whole.events transactions (Some Unended) whole is refl same lasts)

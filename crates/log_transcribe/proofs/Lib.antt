@@ -9,3 +9,4 @@ pub mod StreamLaws
 pub mod WholeLaws
 pub mod SpoolLaws
 pub mod ByteLaws
+pub mod CountLaws

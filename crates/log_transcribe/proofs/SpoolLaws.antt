@@ -14,7 +14,7 @@ use Rattle.log_transcribe.specs.Fault.{meant, behind_meant, of_logs}
 use Rattle.log_transcribe.specs.Files.{GaveFrom}
 use Rattle.log_transcribe.specs.Streamed.{EndsSo, IsTold, IsRefused}
 use Rattle.log_transcribe.specs.Transcript.{feed_of_logs}
-use Rattle.log_transcribe.specs.Private.Sends.{behind_error_of, logs_error_of}
+use Rattle.log_transcribe.specs.Private.Sends.{Places, behind_error_of, logs_error_of}
 
 -- the feed that was written is what is kept
 pub spooled : (old new : Written) (feed bytes : List ℕ) → old ≡ record { bytes = Some []; failures = 0 } → new.bytes ≡ Some bytes → IsWritten old new feed → feed ≡ bytes
@@ -72,19 +72,19 @@ logs_refused (Ok x) fault e = cc
 logs_refused (Err other) fault e = cc
 
 -- why there is no feed of logs that are in memory
-pub logs_ended : (s : SourceTables) (IsRight : List (List ℕ) → List ℕ → Type 0) (all : List (List ℕ)) (many : ℕ) (error : StreamError) (old new : Written) → many ≡ length all
-    → EndsSo (λ logs. of_logs (feed_of_logs s logs)) IsRight (ItemsOf all) many (Err error) old new → Refuses meant (logs_error_of error) (feed_of_logs s all)
-logs_ended s IsRight all many stop.Memory old new count e = tt
-logs_ended s IsRight all many stop.Unwritten old new count e = tt
-logs_ended s IsRight all many (stop.Unread at) old new count e = tt
-logs_ended s IsRight all many (stop.Feed fault) old new count e = tt
-logs_ended s IsRight all many (stop.Fault fault byte) old new count e =
-    logs_refused (feed_of_logs s all) fault (all_refused (λ logs. of_logs (feed_of_logs s logs)) IsRight all many (behind_fault.Logs fault) count e.0)
+pub logs_ended : (s : SourceTables) (IsByte : Places) (IsRight : List (List ℕ) → List ℕ → Type 0) (all : List (List ℕ)) (many : ℕ) (error : StreamError) (old new : Written) → many ≡ length all
+    → EndsSo (λ logs. of_logs (feed_of_logs s logs)) IsByte IsRight (ItemsOf all) many (Err error) old new → Refuses meant (logs_error_of error) (feed_of_logs s all)
+logs_ended s IsByte IsRight all many stop.Memory old new count e = tt
+logs_ended s IsByte IsRight all many stop.Unwritten old new count e = tt
+logs_ended s IsByte IsRight all many (stop.Unread at) old new count e = tt
+logs_ended s IsByte IsRight all many (stop.Feed fault) old new count e = tt
+logs_ended s IsByte IsRight all many (stop.Fault fault byte) old new count e =
+    logs_refused (feed_of_logs s all) fault (all_refused (λ logs. of_logs (feed_of_logs s logs)) IsRight all many (behind_fault.Logs fault) count e.refused)
 
-pub behind_ended : (define : List (List ℕ) → Result (List ℕ) BehindFault) (IsRight : List (List ℕ) → List ℕ → Type 0) (all : List (List ℕ)) (many : ℕ) (error : StreamError) (old new : Written) → many ≡ length all
-    → EndsSo define IsRight (ItemsOf all) many (Err error) old new → Refuses behind_meant (behind_error_of error) (define all)
-behind_ended define IsRight all many stop.Memory old new count e = tt
-behind_ended define IsRight all many stop.Unwritten old new count e = tt
-behind_ended define IsRight all many (stop.Unread at) old new count e = tt
-behind_ended define IsRight all many (stop.Feed fault) old new count e = all_refused define IsRight all many (behind_fault.Feed fault) count e
-behind_ended define IsRight all many (stop.Fault fault byte) old new count e = all_refused define IsRight all many (behind_fault.Logs fault) count e.0
+pub behind_ended : (define : List (List ℕ) → Result (List ℕ) BehindFault) (IsByte : Places) (IsRight : List (List ℕ) → List ℕ → Type 0) (all : List (List ℕ)) (many : ℕ) (error : StreamError) (old new : Written) → many ≡ length all
+    → EndsSo define IsByte IsRight (ItemsOf all) many (Err error) old new → Refuses behind_meant (behind_error_of error) (define all)
+behind_ended define IsByte IsRight all many stop.Memory old new count e = tt
+behind_ended define IsByte IsRight all many stop.Unwritten old new count e = tt
+behind_ended define IsByte IsRight all many (stop.Unread at) old new count e = tt
+behind_ended define IsByte IsRight all many (stop.Feed fault) old new count e = all_refused define IsRight all many (behind_fault.Feed fault) count e
+behind_ended define IsByte IsRight all many (stop.Fault fault byte) old new count e = all_refused define IsRight all many (behind_fault.Logs fault) count e.refused

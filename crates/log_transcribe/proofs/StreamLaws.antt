@@ -1,5 +1,5 @@
 -- Messages on their way to a writer: parts one behind another, and files one behind another.
-use Rattle.std.proofs.Common.{◌≡◌, ℕ, ◌+◌, ◌-◌, ◌<◌, ◌≤◌, Bool, true, false, List, [], ◌∷◌, ◌++◌, length, Option, None, Some, Result, Ok, Err, refl, sym, ap, subst, ◌∙◌, arith, append_assoc, append-nil}
+use Rattle.std.proofs.Common.{◌≡◌, ◌⊎◌, inl, inr, ℕ, ◌+◌, ◌-◌, ◌<◌, ◌≤◌, Bool, true, false, List, [], ◌∷◌, ◌++◌, length, Option, None, Some, Result, Ok, Err, refl, sym, ap, subst, ◌∙◌, arith, append_assoc, append-nil}
 use Rattle.std.proofs.lemmas.List.{length-append}
 use Rattle.std.specs.Prelude.{IfOk, if◌then◌else◌}
 use Rattle.list_laws.specs.Outcome.{◌>>=◌, Refuses}
@@ -25,11 +25,13 @@ use Rattle.log_transcribe.specs.declared.fault.LogsError.TheVariants as logs_err
 use Rattle.log_transcribe.specs.declared.fault.StreamError.{StreamError}
 use Rattle.log_transcribe.specs.declared.fault.StreamError.TheVariants as stop
 use Rattle.log_transcribe.specs.Behind.{Along, log_behind, logs_behind, behind_told}
+use Rattle.log_transcribe.specs.Byte.{StandsAt}
 use Rattle.log_transcribe.specs.Fault.{meant, of_course, of_tell}
+use Rattle.log_transcribe.specs.Standing.{Counts, IsByteFrom, IsLast, StandsFrom}
 use Rattle.log_transcribe.specs.Files.{GaveFrom}
 use Rattle.log_transcribe.specs.Transcript.{course_told, log_told, none_waits, logs_told, nothing_told, feed_told}
 use Rattle.log_transcribe.specs.Private.Bytes.{KeepsWaiting, with_messages, with_waiting, last_with, bytes_told}
-use Rattle.log_transcribe.specs.Private.Sends.{Sending, counted, WentOut, Sends, Going, GoesOn, done, Stops, Puts, PutsOne, PutsLog, Stills, Telling, GoesTo, GoesOver, IsSettled, PutsSpan, IsOfLogs, AreTold, AreRefused, AreUnread, PutsFiles, PutsEnd, AreWritten, TellsAll}
+use Rattle.log_transcribe.specs.Private.Sends.{Sending, counted, WentOut, Sends, Going, GoesOn, done, Stops, Puts, PutsOne, PutsLog, Stills, Telling, GoesTo, GoesOver, IsSettled, PutsSpan, IsOfLogs, AreTold, AreRefused, AreUnread, PutsFiles, PutsEnd, AreWritten, TellsAll, Places, IsByteAt, StopsAt, StopsNowhere}
 use Rattle.log_transcribe.specs.Private.Goes.{reading_behind}
 use Rattle.log_transcribe.specs.Private.Opens.{HasFirst, logs_from, place_behind}
 use Rattle.log_transcribe.proofs.WritingLaws.{same_told, put_both, feed_is}
@@ -283,7 +285,37 @@ settled_by file false e = refl
 settles : (file : ℕ) (waiting : List WaitingValue) → none_waits file waiting ≡ Ok tt → still_waits waiting ≡ false
 settles file waiting e = settled_by file (still_waits waiting) e
 
-module _ {A : Type 0} (told : ℕ → List WaitingValue → List ℕ → A → Result (Going A × List WaitingValue) LogsFault) (tells : Telling A) (are : AreTelling told tells) (Gives : ℕ → List ℕ → Type 0) where
+same_fault : {X F : Type 0} (f g : F) → ◌≡◌ {A = Result X F} (Err f) (Err g) → f ≡ g
+same_fault f g e = cc
+
+-- what is told of a file, by what is put of it
+waiting_so : {A : Type 0} (r : Result (Going A × List WaitingValue) LogsFault) (out outs : List ℕ) (next : A) (left : List WaitingValue) → with_waiting r out ≡ Ok ((outs, next), left)
+    → (x : Going A × List WaitingValue) × (r ≡ Ok x) × (x.0.1 ≡ next) × (x.1 ≡ left)
+waiting_so (Err fault) out outs next left e = cc
+waiting_so {A} (Ok x) out outs next left e =
+    let both : ◌≡◌ {A = (List ℕ × A) × List WaitingValue} ((out ++ written x.0.0, x.0.1), x.1) ((outs, next), left) = same_told ((out ++ written x.0.0, x.0.1), x.1) ((outs, next), left) e in
+    (x, refl, ap (λ (p : (List ℕ × A) × List WaitingValue). p.0.1) both, ap (λ (p : (List ℕ × A) × List WaitingValue). p.1) both)
+
+is_last : {X : Type 0} (r : Result X LogsFault) → IsLast r []
+is_last (Ok x) = refl
+is_last (Err fault) = tt
+
+-- what still waits is at fault where the events end, however many transactions are told
+still_by : (file : ℕ) (b : Bool) (bytes : List ℕ) (told : Option ℕ) (fault : LogsFault) (byte : ℕ) → ◌≡◌ {A = Result (Unit {0}) LogsFault} (if b then Err (Course (file - 1) (Group StillPrepared)) else Ok tt) (Err fault) → StandsAt bytes None fault byte → StandsAt bytes told fault byte
+still_by file false bytes told fault byte e is = cc
+still_by file true bytes told fault byte e is =
+    let same : Course (file - 1) (Group StillPrepared) ≡ fault = same_fault {X = Unit {0}} (Course (file - 1) (Group StillPrepared)) fault e in
+    subst (λ (f : LogsFault). StandsAt bytes told f byte) same (subst (λ (f : LogsFault). StandsAt bytes None f byte) (sym same) is)
+
+still_there : (file : ℕ) (waiting : List WaitingValue) (bytes : List ℕ) (told : Option ℕ) (fault : LogsFault) (byte : Option ℕ) → none_waits file waiting ≡ Err fault → IsByteAt bytes None fault byte → IsByteAt bytes told fault byte
+still_there file waiting bytes told fault None e is = tt
+still_there file waiting bytes told fault (Some byte) e is = still_by file (still_waits waiting) bytes told fault byte e is
+
+module _ {A : Type 0} (told : ℕ → List WaitingValue → List ℕ → A → Result (Going A × List WaitingValue) LogsFault) (tells : Telling A) (are : AreTelling told tells) (count : Counts A) (Gives : ℕ → List ℕ → Type 0) where
+  -- where a fault of files from one on stands
+  abbrev IsBytes : ℕ → List WaitingValue → List (List ℕ) → A → LogsFault → Option ℕ → Type 0
+  IsBytes at left logs far fault byte = IsByteFrom told count at left logs far fault byte
+
   -- behind the last file nothing more is told
   done_there : (many : ℕ) (left : List WaitingValue) (far : A) → still_waits left ≡ false → tells many left [] far ≡ done far
   done_there many left far e = are.end many left far ∙ rw (unsettled many left e) refl
@@ -293,10 +325,16 @@ module _ {A : Type 0} (told : ℕ → List WaitingValue → List ℕ → A → R
   same_rest many to left [] far settled all = done_there to left far settled.changes ∙ sym (done_there to [] far refl)
   same_rest many to left (o ∷ others) far settled all = ap (λ (w : List WaitingValue). tells to w (o ∷ others) far) (settled.before (omega (arith, all)))
 
-  pub none_yet : (file many : ℕ) (far : A) (s : Sending) → GoesOver (λ logs. tells file [] logs far) tells Gives file many file far s s
+  -- a fault of the others stands where it does
+  rest_there : (many to : ℕ) (left : List WaitingValue) (logs : List (List ℕ)) (far : A) (fault : LogsFault) (byte : Option ℕ) → IsSettled many to left → to + length logs ≤ many → IsBytes to [] logs far fault byte → IsBytes to left logs far fault byte
+  rest_there many to left logs far fault None settled within is = tt
+  rest_there many to left [] far fault (Some byte) settled within is = absurd is
+  rest_there many to left (l ∷ logs) far fault (Some byte) settled within is = subst (λ (w : List WaitingValue). StandsFrom told count to w (l ∷ logs) far fault byte) (sym (settled.before (omega (arith, within)))) is
+
+  pub none_yet : (file many : ℕ) (far : A) (s : Sending) → GoesOver (λ logs. tells file [] logs far) (λ logs fault byte. IsBytes file [] logs far fault byte) tells IsBytes Gives file many file far s s
   none_yet file many far s = record {
     left = [];
-    goes = record { logs = []; gave = tt; to_there = omega arith; gone = []; went = went_nothing s; goes = λ others. refl };
+    goes = record { logs = []; gave = tt; to_there = omega arith; gone = []; went = went_nothing s; goes = λ others. refl; there = λ others fault byte is. is };
     settled = record { before = λ less. refl; changes = refl };
   }
 
@@ -304,9 +342,22 @@ module _ {A : Type 0} (told : ℕ → List WaitingValue → List ℕ → A → R
   pub no_file : (many : ℕ) (far : A) (now : Sending) → many ≡ 0 → AreTold (λ others. tells 0 [] [] far) Gives 0 many far now now
   no_file many far now none = record { logs = []; gave = tt; all = omega (arith, none); goes = ([], went_nothing now, ap (λ r. with_messages r now.waits) (done_there 0 [] far refl)) }
 
+  -- a fault behind a file that is told
+  file_there : (file : ℕ) (waiting : List WaitingValue) (bytes : List ℕ) (far next : A) (left : List WaitingValue) (out outs : List ℕ) (others : List (List ℕ)) (fault : LogsFault) (byte : Option ℕ) → with_waiting (told file waiting bytes far) out ≡ Ok ((outs, next), left)
+      → IsBytes (file + 1) left others next fault byte → IsBytes file waiting (bytes ∷ others) far fault byte
+  file_there file waiting bytes far next left out outs others fault None e is = tt
+  file_there file waiting bytes far next left out outs others fault (Some byte) e is =
+      let x = waiting_so (told file waiting bytes far) out outs next left e in
+      inr (x.0, x.1, subst (λ (w : List WaitingValue). StandsFrom told count (file + 1) w others x.0.0.1 fault byte) (sym x.3) (subst (λ (a : A). StandsFrom told count (file + 1) left others a fault byte) (sym x.2) is))
+
+  -- a fault of the last one
+  last_there : (file : ℕ) (waiting : List WaitingValue) (bytes : List ℕ) (far : A) (fault : LogsFault) (byte : Option ℕ) → IsByteAt bytes (count file waiting bytes far) fault byte → IsBytes file waiting (bytes ∷ []) far fault byte
+  last_there file waiting bytes far fault None is = tt
+  last_there file waiting bytes far fault (Some byte) is = inl (is_last (told file waiting bytes far), is)
+
   -- one file is told
   file_goes : {X : Type 0} (view : X → List WaitingValue) (x : X) (file : ℕ) (waiting : List WaitingValue) (bytes : List ℕ) (far next : A) (old new : Sending) → PutsLog (told file waiting bytes far) view next (Ok x) old new
-      → GoesTo (λ logs. tells file waiting (bytes ∷ logs) far) tells Gives (file + 1) (file + 1) (view x) next old new
+      → GoesTo (λ logs. tells file waiting (bytes ∷ logs) far) (λ logs fault byte. IsBytes file waiting (bytes ∷ logs) far fault byte) tells IsBytes Gives (file + 1) (file + 1) (view x) next old new
   file_goes view x file waiting bytes far next old new put = record {
     logs = [];
     gave = tt;
@@ -314,19 +365,20 @@ module _ {A : Type 0} (told : ℕ → List WaitingValue → List ℕ → A → R
     gone = put.0;
     went = put.1;
     goes = λ others. ap (λ r. with_messages r old.waits) (are.first file waiting bytes others far) ∙ file_before (told file waiting bytes far) (λ left a. tells (file + 1) left others a) old.waits (put.0 ++ new.waits) next (view x) put.2;
+    there = λ others fault byte is. file_there file waiting bytes far next (view x) old.waits (put.0 ++ new.waits) others fault byte put.2 is;
   }
 
-  goes_fault : (all : List (List ℕ) → Result (Going A) LogsFault) (file to : ℕ) (left : List WaitingValue) (far : A) (old now : Sending) (sofar : GoesTo all tells Gives file to left far old now) (others : List (List ℕ)) (fault : LogsFault)
+  goes_fault : (all : List (List ℕ) → Result (Going A) LogsFault) (IsByte : Places) (file to : ℕ) (left : List WaitingValue) (far : A) (old now : Sending) (sofar : GoesTo all IsByte tells IsBytes Gives file to left far old now) (others : List (List ℕ)) (fault : LogsFault)
       → tells to left others far ≡ Err fault → all (sofar.logs ++ others) ≡ Err fault
-  goes_fault all file to left far old now sofar others fault e = fault_is (all (sofar.logs ++ others)) old.waits fault (sofar.goes others ∙ ap (λ r. with_messages r (sofar.gone ++ now.waits)) e)
+  goes_fault all IsByte file to left far old now sofar others fault e = fault_is (all (sofar.logs ++ others)) old.waits fault (sofar.goes others ∙ ap (λ r. with_messages r (sofar.gone ++ now.waits)) e)
 
   gave_both : (file to : ℕ) (logs more : List (List ℕ)) → file + length logs ≡ to → GaveFrom Gives file logs → GaveFrom Gives to more → GaveFrom Gives file (logs ++ more)
   gave_both file to [] more at a b = subst (λ (k : ℕ). GaveFrom Gives k more) (omega (arith, at)) b
   gave_both file to (log ∷ logs) more at a b = (a.0, gave_both (file + 1) to logs more (omega (arith, at)) a.1 b)
 
-  goes_both : (all : List (List ℕ) → Result (Going A) LogsFault) (file mid to : ℕ) (left last : List WaitingValue) (far next : A) (old now new : Sending) → GoesTo all tells Gives file mid left far old now → GoesTo (λ logs. tells mid left logs far) tells Gives mid to last next now new
-      → GoesTo all tells Gives file to last next old new
-  goes_both all file mid to left last far next old now new a b = record {
+  goes_both : (all : List (List ℕ) → Result (Going A) LogsFault) (IsByte : Places) (file mid to : ℕ) (left last : List WaitingValue) (far next : A) (old now new : Sending) → GoesTo all IsByte tells IsBytes Gives file mid left far old now → GoesTo (λ logs. tells mid left logs far) (λ logs fault byte. IsBytes mid left logs far fault byte) tells IsBytes Gives mid to last next now new
+      → GoesTo all IsByte tells IsBytes Gives file to last next old new
+  goes_both all IsByte file mid to left last far next old now new a b = record {
     logs = a.logs ++ b.logs;
     gave = gave_both file mid a.logs b.logs a.to_there a.gave b.gave;
     to_there = omega (arith, length-append a.logs b.logs, a.to_there, b.to_there);
@@ -337,21 +389,23 @@ module _ {A : Type 0} (told : ℕ → List WaitingValue → List ℕ → A → R
         ∙ a.goes (b.logs ++ others)
         ∙ shifted (tells mid left (b.logs ++ others) far) (tells to last others next) a.gone now.waits (b.gone ++ new.waits) (b.goes others)
         ∙ ap (with_messages (tells to last others next)) (sym (append_assoc a.gone b.gone new.waits));
+    there = λ others fault byte is. subst (λ (l : List (List ℕ)). IsByte l fault byte) (sym (append_assoc a.logs b.logs others)) (a.there (b.logs ++ others) fault byte (b.there others fault byte is));
   }
 
-  refused_both : (all : List (List ℕ) → Result (Going A) LogsFault) (file mid many : ℕ) (left : List WaitingValue) (far : A) (old now : Sending) (fault : LogsFault) → GoesTo all tells Gives file mid left far old now → AreRefused (λ logs. tells mid left logs far) Gives mid many fault
-      → AreRefused all Gives file many fault
-  refused_both all file mid many left far old now fault a b = record {
+  refused_both : (all : List (List ℕ) → Result (Going A) LogsFault) (IsByte : Places) (file mid many : ℕ) (left : List WaitingValue) (far : A) (old now : Sending) (fault : LogsFault) (byte : Option ℕ) → GoesTo all IsByte tells IsBytes Gives file mid left far old now → AreRefused (λ logs. tells mid left logs far) (λ logs fault byte. IsBytes mid left logs far fault byte) Gives mid many fault byte
+      → AreRefused all IsByte Gives file many fault byte
+  refused_both all IsByte file mid many left far old now fault byte a b = record {
     logs = a.logs ++ b.logs;
     gave = gave_both file mid a.logs b.logs a.to_there a.gave b.gave;
     within = omega (arith, length-append a.logs b.logs, a.to_there, b.within);
     is = λ others sum.
         ap all (append_assoc a.logs b.logs others)
-        ∙ goes_fault all file mid left far old now a (b.logs ++ others) fault (b.is others (omega (arith, length-append a.logs b.logs, a.to_there, sum)));
+        ∙ goes_fault all IsByte file mid left far old now a (b.logs ++ others) fault (b.is others (omega (arith, length-append a.logs b.logs, a.to_there, sum)));
+    there = a.there b.logs fault byte b.there;
   }
 
-  unread_both : (all : List (List ℕ) → Result (Going A) LogsFault) (file mid many at : ℕ) (left : List WaitingValue) (far : A) (old now : Sending) → GoesTo all tells Gives file mid left far old now → AreUnread Gives mid many at → AreUnread Gives file many at
-  unread_both all file mid many at left far old now a b = record {
+  unread_both : (all : List (List ℕ) → Result (Going A) LogsFault) (IsByte : Places) (file mid many at : ℕ) (left : List WaitingValue) (far : A) (old now : Sending) → GoesTo all IsByte tells IsBytes Gives file mid left far old now → AreUnread Gives mid many at → AreUnread Gives file many at
+  unread_both all IsByte file mid many at left far old now a b = record {
     within = b.within;
     logs = a.logs ++ b.logs;
     gave = gave_both file mid a.logs b.logs a.to_there a.gave b.gave;
@@ -359,32 +413,33 @@ module _ {A : Type 0} (told : ℕ → List WaitingValue → List ℕ → A → R
   }
 
   -- those behind it
-  pub span_behind : (all : List (List ℕ) → Result (Going A) LogsFault) (file mid many : ℕ) (left : List WaitingValue) (far next : A) (answer : Result ℕ StreamError) (old now new : Sending) → GoesTo all tells Gives file mid left far old now
-      → PutsSpan (λ logs. tells mid left logs far) tells Gives mid many next answer now new → PutsSpan all tells Gives file many next answer old new
-  span_behind all file mid many left far next (Ok to) old now new a b = record { left = b.left; goes = goes_both all file mid to left b.left far next old now new a b.goes; settled = b.settled }
-  span_behind all file mid many left far next (Err stop.Memory) old now new a b = tt
-  span_behind all file mid many left far next (Err stop.Unwritten) old now new a b = breaks_behind old now new a.gone a.went b
-  span_behind all file mid many left far next (Err (stop.Unread at)) old now new a b = unread_both all file mid many at left far old now a b
-  span_behind all file mid many left far next (Err (stop.Feed fault)) old now new a b = absurd b
-  span_behind all file mid many left far next (Err (stop.Fault fault byte)) old now new a b = refused_both all file mid many left far old now fault a b
+  pub span_behind : (all : List (List ℕ) → Result (Going A) LogsFault) (IsByte : Places) (file mid many : ℕ) (left : List WaitingValue) (far next : A) (answer : Result ℕ StreamError) (old now new : Sending) → GoesTo all IsByte tells IsBytes Gives file mid left far old now
+      → PutsSpan (λ logs. tells mid left logs far) (λ logs fault byte. IsBytes mid left logs far fault byte) tells IsBytes Gives mid many next answer now new → PutsSpan all IsByte tells IsBytes Gives file many next answer old new
+  span_behind all IsByte file mid many left far next (Ok to) old now new a b = record { left = b.left; goes = goes_both all IsByte file mid to left b.left far next old now new a b.goes; settled = b.settled }
+  span_behind all IsByte file mid many left far next (Err stop.Memory) old now new a b = tt
+  span_behind all IsByte file mid many left far next (Err stop.Unwritten) old now new a b = breaks_behind old now new a.gone a.went b
+  span_behind all IsByte file mid many left far next (Err (stop.Unread at)) old now new a b = unread_both all IsByte file mid many at left far old now a b
+  span_behind all IsByte file mid many left far next (Err (stop.Feed fault)) old now new a b = absurd b
+  span_behind all IsByte file mid many left far next (Err (stop.Fault fault byte)) old now new a b = refused_both all IsByte file mid many left far old now fault byte a b
 
   -- a file that stops it
-  pub file_stops : (file many : ℕ) (waiting : List WaitingValue) (bytes : List ℕ) (far next : A) (error : StreamError) (old new : Sending) → file < many → Stops (told file waiting bytes far) error old.written new.written
-      → PutsSpan (λ logs. tells file waiting (bytes ∷ logs) far) tells Gives (file + 1) many next (Err error) old new
-  file_stops file many waiting bytes far next stop.Memory old new less s = tt
-  file_stops file many waiting bytes far next stop.Unwritten old new less s = s
-  file_stops file many waiting bytes far next (stop.Unread at) old new less s = absurd s
-  file_stops file many waiting bytes far next (stop.Feed fault) old new less s = absurd s
-  file_stops file many waiting bytes far next (stop.Fault fault byte) old new less s = record {
+  pub file_stops : (file many : ℕ) (waiting : List WaitingValue) (bytes : List ℕ) (far next : A) (error : StreamError) (old new : Sending) → file < many → Stops (told file waiting bytes far) error old.written new.written → StopsAt bytes (count file waiting bytes far) error
+      → PutsSpan (λ logs. tells file waiting (bytes ∷ logs) far) (λ logs fault byte. IsBytes file waiting (bytes ∷ logs) far fault byte) tells IsBytes Gives (file + 1) many next (Err error) old new
+  file_stops file many waiting bytes far next stop.Memory old new less s is = tt
+  file_stops file many waiting bytes far next stop.Unwritten old new less s is = s
+  file_stops file many waiting bytes far next (stop.Unread at) old new less s is = absurd s
+  file_stops file many waiting bytes far next (stop.Feed fault) old new less s is = absurd s
+  file_stops file many waiting bytes far next (stop.Fault fault byte) old new less s is = record {
     logs = [];
     gave = tt;
     within = omega (arith, less);
     is = λ others sum. are.first file waiting bytes others far ∙ rw s refl;
+    there = last_there file waiting bytes far fault byte is;
   }
 
   -- nothing waits behind it
   pub file_settled : {X : Type 0} (view : X → List WaitingValue) (x : X) (file many : ℕ) (waiting : List WaitingValue) (bytes : List ℕ) (far next : A) (old new : Sending) → view x ≡ [] → PutsLog (told file waiting bytes far) view next (Ok x) old new
-      → PutsSpan (λ logs. tells file waiting (bytes ∷ logs) far) tells Gives (file + 1) many next (Ok (file + 1)) old new
+      → PutsSpan (λ logs. tells file waiting (bytes ∷ logs) far) (λ logs fault byte. IsBytes file waiting (bytes ∷ logs) far fault byte) tells IsBytes Gives (file + 1) many next (Ok (file + 1)) old new
   file_settled view x file many waiting bytes far next old new none put = record {
     left = view x;
     goes = file_goes view x file waiting bytes far next old new put;
@@ -393,69 +448,72 @@ module _ {A : Type 0} (told : ℕ → List WaitingValue → List ℕ → A → R
 
   -- others behind it
   pub file_behind : {X : Type 0} (view : X → List WaitingValue) (x : X) (file many : ℕ) (waiting : List WaitingValue) (bytes : List ℕ) (far mid next : A) (answer : Result ℕ StreamError) (old now new : Sending) → PutsLog (told file waiting bytes far) view mid (Ok x) old now
-      → PutsSpan (λ logs. tells (file + 1) (view x) logs mid) tells Gives (file + 1) many next answer now new → PutsSpan (λ logs. tells file waiting (bytes ∷ logs) far) tells Gives (file + 1) many next answer old new
+      → PutsSpan (λ logs. tells (file + 1) (view x) logs mid) (λ logs fault byte. IsBytes (file + 1) (view x) logs mid fault byte) tells IsBytes Gives (file + 1) many next answer now new → PutsSpan (λ logs. tells file waiting (bytes ∷ logs) far) (λ logs fault byte. IsBytes file waiting (bytes ∷ logs) far fault byte) tells IsBytes Gives (file + 1) many next answer old new
   file_behind view x file many waiting bytes far mid next answer old now new put rest =
-      span_behind (λ logs. tells file waiting (bytes ∷ logs) far) (file + 1) (file + 1) many (view x) mid next answer old now new (file_goes view x file waiting bytes far mid old now put) rest
+      span_behind (λ logs. tells file waiting (bytes ∷ logs) far) (λ logs fault byte. IsBytes file waiting (bytes ∷ logs) far fault byte) (file + 1) (file + 1) many (view x) mid next answer old now new (file_goes view x file waiting bytes far mid old now put) rest
 
   -- it is the last one
   pub file_last : {X : Type 0} (view : X → List WaitingValue) (x : X) (file many : ℕ) (waiting : List WaitingValue) (bytes : List ℕ) (far next : A) (old new : Sending) → many ≤ file + 1 → none_waits (file + 1) (view x) ≡ Ok tt → PutsLog (told file waiting bytes far) view next (Ok x) old new
-      → PutsSpan (λ logs. tells file waiting (bytes ∷ logs) far) tells Gives (file + 1) many next (Ok (file + 1)) old new
+      → PutsSpan (λ logs. tells file waiting (bytes ∷ logs) far) (λ logs fault byte. IsBytes file waiting (bytes ∷ logs) far fault byte) tells IsBytes Gives (file + 1) many next (Ok (file + 1)) old new
   file_last view x file many waiting bytes far next old new last none put = record {
     left = view x;
     goes = file_goes view x file waiting bytes far next old new put;
     settled = record { before = λ less. absurd (omega (arith, last, less)); changes = settles (file + 1) (view x) none };
   }
 
-  pub file_waits : {X : Type 0} (view : X → List WaitingValue) (x : X) (file many : ℕ) (waiting : List WaitingValue) (bytes : List ℕ) (far mid next : A) (error : StreamError) (old new : Sending) → many ≤ file + 1 → file < many → Stills (none_waits (file + 1) (view x)) (Err error)
-      → PutsLog (told file waiting bytes far) view mid (Ok x) old new → PutsSpan (λ logs. tells file waiting (bytes ∷ logs) far) tells Gives (file + 1) many next (Err error) old new
-  file_waits view x file many waiting bytes far mid next stop.Memory old new last less s put = tt
-  file_waits view x file many waiting bytes far mid next stop.Unwritten old new last less s put = absurd s
-  file_waits view x file many waiting bytes far mid next (stop.Unread at) old new last less s put = absurd s
-  file_waits view x file many waiting bytes far mid next (stop.Feed fault) old new last less s put = absurd s
-  file_waits view x file many waiting bytes far mid next (stop.Fault fault byte) old new last less s put =
-      let goes = file_goes view x file waiting bytes far mid old new put in
-      refused_both (λ logs. tells file waiting (bytes ∷ logs) far) (file + 1) (file + 1) many (view x) mid old new fault goes (record {
-        logs = [];
-        gave = tt;
-        within = omega (arith, less);
-        is = λ others sum.
-            ap (λ (o : List (List ℕ)). tells (file + 1) (view x) o mid) (no_logs_more others (file + 1) many (omega (arith, sum)) last)
-            ∙ are.end (file + 1) (view x) mid ∙ rw s refl;
-      })
+  pub file_waits : {X : Type 0} (view : X → List WaitingValue) (x : X) (file many : ℕ) (waiting : List WaitingValue) (bytes : List ℕ) (far mid next : A) (error : StreamError) (old new : Sending) → many ≤ file + 1 → file < many → Stills (none_waits (file + 1) (view x)) (Err error) → StopsAt bytes None error
+      → PutsLog (told file waiting bytes far) view mid (Ok x) old new → PutsSpan (λ logs. tells file waiting (bytes ∷ logs) far) (λ logs fault byte. IsBytes file waiting (bytes ∷ logs) far fault byte) tells IsBytes Gives (file + 1) many next (Err error) old new
+  file_waits view x file many waiting bytes far mid next stop.Memory old new last less s is put = tt
+  file_waits view x file many waiting bytes far mid next stop.Unwritten old new last less s is put = absurd s
+  file_waits view x file many waiting bytes far mid next (stop.Unread at) old new last less s is put = absurd s
+  file_waits view x file many waiting bytes far mid next (stop.Feed fault) old new last less s is put = absurd s
+  file_waits view x file many waiting bytes far mid next (stop.Fault fault byte) old new last less s is put = record {
+    logs = [];
+    gave = tt;
+    within = omega (arith, less);
+    is = λ others sum.
+        let rest : tells (file + 1) (view x) others mid ≡ Err fault =
+        ap (λ (o : List (List ℕ)). tells (file + 1) (view x) o mid) (no_logs_more others (file + 1) many (omega (arith, sum)) last) ∙ are.end (file + 1) (view x) mid ∙ rw s refl in
+        fault_is (tells file waiting (bytes ∷ others) far) old.waits fault
+        (ap (λ r. with_messages r old.waits) (are.first file waiting bytes others far)
+        ∙ file_before (told file waiting bytes far) (λ left a. tells (file + 1) left others a) old.waits (put.0 ++ new.waits) mid (view x) put.2
+        ∙ ap (λ r. with_messages r (put.0 ++ new.waits)) rest);
+    there = last_there file waiting bytes far fault byte (still_there (file + 1) (view x) bytes (count file waiting bytes far) fault byte s is);
+  }
 
   -- the file gave these bytes
-  pub file_gave : (file many : ℕ) (waiting : List WaitingValue) (bytes : List ℕ) (far next : A) (answer : Result ℕ StreamError) (old new : Sending) → Gives file bytes → PutsSpan (λ logs. tells file waiting (bytes ∷ logs) far) tells Gives (file + 1) many next answer old new
-      → PutsSpan (λ logs. tells file waiting logs far) tells Gives file many next answer old new
+  pub file_gave : (file many : ℕ) (waiting : List WaitingValue) (bytes : List ℕ) (far next : A) (answer : Result ℕ StreamError) (old new : Sending) → Gives file bytes → PutsSpan (λ logs. tells file waiting (bytes ∷ logs) far) (λ logs fault byte. IsBytes file waiting (bytes ∷ logs) far fault byte) tells IsBytes Gives (file + 1) many next answer old new
+      → PutsSpan (λ logs. tells file waiting logs far) (λ logs fault byte. IsBytes file waiting logs far fault byte) tells IsBytes Gives file many next answer old new
   file_gave file many waiting bytes far next (Ok to) old new gave put = record {
     left = put.left;
-    goes = record { logs = bytes ∷ put.goes.logs; gave = (gave, put.goes.gave); to_there = omega (arith, put.goes.to_there); gone = put.goes.gone; went = put.goes.went; goes = put.goes.goes };
+    goes = record { logs = bytes ∷ put.goes.logs; gave = (gave, put.goes.gave); to_there = omega (arith, put.goes.to_there); gone = put.goes.gone; went = put.goes.went; goes = put.goes.goes; there = put.goes.there };
     settled = put.settled;
   }
   file_gave file many waiting bytes far next (Err stop.Memory) old new gave put = tt
   file_gave file many waiting bytes far next (Err stop.Unwritten) old new gave put = put
   file_gave file many waiting bytes far next (Err (stop.Unread at)) old new gave put = record { within = put.within; logs = bytes ∷ put.logs; gave = (gave, put.gave); before = omega (arith, put.before) }
   file_gave file many waiting bytes far next (Err (stop.Feed fault)) old new gave put = absurd put
-  file_gave file many waiting bytes far next (Err (stop.Fault fault byte)) old new gave put = record { logs = bytes ∷ put.logs; gave = (gave, put.gave); within = omega (arith, put.within); is = λ others sum. put.is others (omega (arith, sum)) }
+  file_gave file many waiting bytes far next (Err (stop.Fault fault byte)) old new gave put = record { logs = bytes ∷ put.logs; gave = (gave, put.gave); within = omega (arith, put.within); is = λ others sum. put.is others (omega (arith, sum)); there = put.there }
 
-  pub file_unread : (all : List (List ℕ) → Result (Going A) LogsFault) (file many : ℕ) (next : A) (old new : Sending) → file < many → PutsSpan all tells Gives file many next (Err (stop.Unread file)) old new
-  file_unread all file many next old new less = record { within = less; logs = []; gave = tt; before = omega arith }
+  pub file_unread : (all : List (List ℕ) → Result (Going A) LogsFault) (IsByte : Places) (file many : ℕ) (next : A) (old new : Sending) → file < many → PutsSpan all IsByte tells IsBytes Gives file many next (Err (stop.Unread file)) old new
+  file_unread all IsByte file many next old new less = record { within = less; logs = []; gave = tt; before = omega arith }
 
   -- ---- one span behind another
 
-  pub over_more : (all : List (List ℕ) → Result (Going A) LogsFault) (file mid many : ℕ) (far next : A) (answer : Result ℕ StreamError) (old now new : Sending) → mid < many → GoesOver all tells Gives file many mid far old now
-      → PutsSpan (λ logs. tells mid [] logs far) tells Gives mid many next answer now new → PutsSpan all tells Gives file many next answer old new
-  over_more all file mid many far next answer old now new less a b =
-      span_behind all file mid many a.left far next answer old now new a.goes (subst (λ (w : List WaitingValue). PutsSpan (λ logs. tells mid w logs far) tells Gives mid many next answer now new) (sym (a.settled.before less)) b)
+  pub over_more : (all : List (List ℕ) → Result (Going A) LogsFault) (IsByte : Places) (file mid many : ℕ) (far next : A) (answer : Result ℕ StreamError) (old now new : Sending) → mid < many → GoesOver all IsByte tells IsBytes Gives file many mid far old now
+      → PutsSpan (λ logs. tells mid [] logs far) (λ logs fault byte. IsBytes mid [] logs far fault byte) tells IsBytes Gives mid many next answer now new → PutsSpan all IsByte tells IsBytes Gives file many next answer old new
+  over_more all IsByte file mid many far next answer old now new less a b =
+      span_behind all IsByte file mid many a.left far next answer old now new a.goes (subst (λ (w : List WaitingValue). PutsSpan (λ logs. tells mid w logs far) (λ logs fault byte. IsBytes mid w logs far fault byte) tells IsBytes Gives mid many next answer now new) (sym (a.settled.before less)) b)
 
-  pub over_stopped : (all : List (List ℕ) → Result (Going A) LogsFault) (file many : ℕ) (far next : A) (error : StreamError) (old new : Sending) → PutsSpan all tells Gives file many far (Err error) old new → PutsFiles all Gives file many next (Err error) old new
-  over_stopped all file many far next stop.Memory old new a = tt
-  over_stopped all file many far next stop.Unwritten old new a = a
-  over_stopped all file many far next (stop.Unread at) old new a = a
-  over_stopped all file many far next (stop.Feed fault) old new a = absurd a
-  over_stopped all file many far next (stop.Fault fault byte) old new a = a
+  pub over_stopped : (all : List (List ℕ) → Result (Going A) LogsFault) (IsByte : Places) (file many : ℕ) (far next : A) (error : StreamError) (old new : Sending) → PutsSpan all IsByte tells IsBytes Gives file many far (Err error) old new → PutsFiles all IsByte Gives file many next (Err error) old new
+  over_stopped all IsByte file many far next stop.Memory old new a = tt
+  over_stopped all IsByte file many far next stop.Unwritten old new a = a
+  over_stopped all IsByte file many far next (stop.Unread at) old new a = a
+  over_stopped all IsByte file many far next (stop.Feed fault) old new a = absurd a
+  over_stopped all IsByte file many far next (stop.Fault fault byte) old new a = a
 
-  pub over_done : (all : List (List ℕ) → Result (Going A) LogsFault) (file to many : ℕ) (far : A) (old new : Sending) → to ≡ many → GoesOver all tells Gives file many to far old new → AreTold all Gives file many far old new
-  over_done all file to many far old new is a = record {
+  pub over_done : (all : List (List ℕ) → Result (Going A) LogsFault) (IsByte : Places) (file to many : ℕ) (far : A) (old new : Sending) → to ≡ many → GoesOver all IsByte tells IsBytes Gives file many to far old new → AreTold all Gives file many far old new
+  over_done all IsByte file to many far old new is a = record {
     logs = a.goes.logs;
     gave = a.goes.gave;
     all = a.goes.to_there ∙ is;
@@ -467,24 +525,25 @@ module _ {A : Type 0} (told : ℕ → List WaitingValue → List ℕ → A → R
   }
 
   -- all the others behind it
-  pub over_rest : (all : List (List ℕ) → Result (Going A) LogsFault) (file mid many : ℕ) (far next : A) (answer : Result (Unit {0}) StreamError) (old now new : Sending) → GoesOver all tells Gives file many mid far old now
-      → PutsFiles (λ logs. tells mid [] logs far) Gives mid many next answer now new → PutsFiles all Gives file many next answer old new
-  over_rest all file mid many far next (Ok x) old now new a b = record {
+  pub over_rest : (all : List (List ℕ) → Result (Going A) LogsFault) (IsByte : Places) (file mid many : ℕ) (far next : A) (answer : Result (Unit {0}) StreamError) (old now new : Sending) → GoesOver all IsByte tells IsBytes Gives file many mid far old now
+      → PutsFiles (λ logs. tells mid [] logs far) (λ logs fault byte. IsBytes mid [] logs far fault byte) Gives mid many next answer now new → PutsFiles all IsByte Gives file many next answer old new
+  over_rest all IsByte file mid many far next (Ok x) old now new a b = record {
     logs = a.goes.logs ++ b.logs;
     gave = gave_both file mid a.goes.logs b.logs a.goes.to_there a.goes.gave b.gave;
     all = omega (arith, length-append a.goes.logs b.logs, a.goes.to_there, b.all);
     goes = goes_further (all (a.goes.logs ++ b.logs)) (tells mid [] b.logs far) (done next) old now new
         (a.goes.gone, a.goes.went, a.goes.goes b.logs ∙ ap (λ r. with_messages r (a.goes.gone ++ now.waits)) (same_rest many mid a.left b.logs far a.settled b.all)) b.goes;
   }
-  over_rest all file mid many far next (Err stop.Memory) old now new a b = tt
-  over_rest all file mid many far next (Err stop.Unwritten) old now new a b = breaks_behind old now new a.goes.gone a.goes.went b
-  over_rest all file mid many far next (Err (stop.Unread at)) old now new a b = unread_both all file mid many at a.left far old now a.goes b
-  over_rest all file mid many far next (Err (stop.Feed fault)) old now new a b = absurd b
-  over_rest all file mid many far next (Err (stop.Fault fault byte)) old now new a b = refused_both all file mid many a.left far old now fault a.goes (record {
+  over_rest all IsByte file mid many far next (Err stop.Memory) old now new a b = tt
+  over_rest all IsByte file mid many far next (Err stop.Unwritten) old now new a b = breaks_behind old now new a.goes.gone a.goes.went b
+  over_rest all IsByte file mid many far next (Err (stop.Unread at)) old now new a b = unread_both all IsByte file mid many at a.left far old now a.goes b
+  over_rest all IsByte file mid many far next (Err (stop.Feed fault)) old now new a b = absurd b
+  over_rest all IsByte file mid many far next (Err (stop.Fault fault byte)) old now new a b = refused_both all IsByte file mid many a.left far old now fault byte a.goes (record {
     logs = b.logs;
     gave = b.gave;
     within = b.within;
     is = λ others sum. same_rest many mid a.left (b.logs ++ others) far a.settled (omega (arith, length-append b.logs others, sum)) ∙ b.is others sum;
+    there = rest_there many mid a.left b.logs far fault byte a.settled b.within b.there;
   })
 
 -- ---- the whole
@@ -492,9 +551,6 @@ module _ {A : Type 0} (told : ℕ → List WaitingValue → List ℕ → A → R
 pub no_others : (logs others : List (List ℕ)) (from many : ℕ) → from + length logs ≡ many → from + (length logs + length others) ≡ many → others ≡ []
 no_others logs [] from many all both = refl
 no_others logs (o ∷ others) from many all both = absurd (omega (arith, all, both))
-
-same_fault : {X F : Type 0} (f g : F) → ◌≡◌ {A = Result X F} (Err f) (Err g) → f ≡ g
-same_fault f g e = cc
 
 bytes_fault : (r : Result (List (List EventValue)) LogsFault) (fault : LogsFault) → bytes_told r ≡ Err fault → r ≡ Err fault
 bytes_fault (Ok x) fault e = cc
@@ -512,7 +568,7 @@ pub record IsPart {A : Type 0} (tells : List (List ℕ) → Result (Going A) Log
   pub ends : (logs : List (List ℕ)) (out : List ℕ) (far : A) → from + length logs ≡ many → with_messages (tells logs) [] ≡ Ok (out, far) → bytes_told (whole logs) ≡ last_with (last far) out
   pub stops : (logs : List (List ℕ)) (fault : LogsFault) → tells logs ≡ Err fault → whole logs ≡ Err fault
 
-module _ {A : Type 0} (tells : List (List ℕ) → Result (Going A) LogsFault) (whole : List (List ℕ) → Result (List (List EventValue)) LogsFault) (Gives : ℕ → List ℕ → Type 0) (from many : ℕ) where
+module _ {A : Type 0} (tells : List (List ℕ) → Result (Going A) LogsFault) (whole : List (List ℕ) → Result (List (List EventValue)) LogsFault) (IsByte : Places) (Gives : ℕ → List ℕ → Type 0) (from many : ℕ) where
   told_bytes : (logs : List (List ℕ)) (far : A) (old now : Sending) (goes : GoesOn (tells logs) (done far) old now) → old.waits ≡ [] → with_messages (tells logs) [] ≡ Ok (goes.0 ++ now.waits, far)
   told_bytes logs far old now goes fresh = ap (with_messages (tells logs)) (sym fresh) ∙ goes.2 ∙ ap (λ (b : List ℕ). Ok (b, far)) (append-nil (goes.0 ++ now.waits))
 
@@ -530,13 +586,13 @@ module _ {A : Type 0} (tells : List (List ℕ) → Result (Going A) LogsFault) (
         many_bytes = is ∙ both.sent 0 none ∙ ap counted (omega arith);
       }
 
-  pub end_stopped : (last : A → Result (List (List EventValue)) LogsFault) → IsPart tells whole from many last → (far : A) (error : StreamError) (old now new : Sending) → old.waits ≡ []
-      → AreTold tells Gives from many far old now → PutsEnd (last far) (Err error) now new → TellsAll whole Gives from many (Err error) old.written new.written
-  end_stopped last part far stop.Memory old now new fresh sofar end = tt
-  end_stopped last part far stop.Unwritten old now new fresh sofar end = breaks_behind old now new sofar.goes.0 sofar.goes.1 end
-  end_stopped last part far (stop.Unread at) old now new fresh sofar end = absurd end
-  end_stopped last part far (stop.Feed fault) old now new fresh sofar end = absurd end
-  end_stopped last part far (stop.Fault fault byte) old now new fresh sofar end = record {
+  pub end_stopped : (last : A → Result (List (List EventValue)) LogsFault) → IsPart tells whole from many last → ((logs : List (List ℕ)) (fault : LogsFault) → IsByte logs fault None) → (far : A) (error : StreamError) (old now new : Sending) → old.waits ≡ []
+      → AreTold tells Gives from many far old now → PutsEnd (last far) (Err error) now new → StopsNowhere error → TellsAll whole IsByte Gives from many (Err error) old.written new.written
+  end_stopped last part nowhere far stop.Memory old now new fresh sofar end none = tt
+  end_stopped last part nowhere far stop.Unwritten old now new fresh sofar end none = breaks_behind old now new sofar.goes.0 sofar.goes.1 end
+  end_stopped last part nowhere far (stop.Unread at) old now new fresh sofar end none = absurd end
+  end_stopped last part nowhere far (stop.Feed fault) old now new fresh sofar end none = absurd end
+  end_stopped last part nowhere far (stop.Fault fault byte) old now new fresh sofar end none = record {
     logs = sofar.logs;
     gave = sofar.gave;
     within = omega (arith, sofar.all);
@@ -545,14 +601,15 @@ module _ {A : Type 0} (tells : List (List ℕ) → Result (Going A) LogsFault) (
         (ap whole (append-nil sofar.logs)
         ∙ bytes_fault (whole sofar.logs) fault
         (part.ends sofar.logs (sofar.goes.0 ++ now.waits) far sofar.all (told_bytes sofar.logs far old now sofar.goes fresh) ∙ last_fault (last far) (sofar.goes.0 ++ now.waits) fault end));
+    there = subst (λ (b : Option ℕ). IsByte sofar.logs fault b) (sym none) (nowhere sofar.logs fault);
   }
 
-  pub files_stopped : (last : A → Result (List (List EventValue)) LogsFault) → IsPart tells whole from many last → (far : A) (error : StreamError) (old new : Sending) → PutsFiles tells Gives from many far (Err error) old new → TellsAll whole Gives from many (Err error) old.written new.written
+  pub files_stopped : (last : A → Result (List (List EventValue)) LogsFault) → IsPart tells whole from many last → (far : A) (error : StreamError) (old new : Sending) → PutsFiles tells IsByte Gives from many far (Err error) old new → TellsAll whole IsByte Gives from many (Err error) old.written new.written
   files_stopped last part far stop.Memory old new put = tt
   files_stopped last part far stop.Unwritten old new put = put
   files_stopped last part far (stop.Unread at) old new put = put
   files_stopped last part far (stop.Feed fault) old new put = absurd put
-  files_stopped last part far (stop.Fault fault byte) old new put = record { logs = put.logs; gave = put.gave; within = put.within; is = λ others both. part.stops (put.logs ++ others) fault (put.is others both) }
+  files_stopped last part far (stop.Fault fault byte) old new put = record { logs = put.logs; gave = put.gave; within = put.within; is = λ others both. part.stops (put.logs ++ others) fault (put.is others both); there = put.there }
 
 -- ---- of logs, and of logs behind a feed
 

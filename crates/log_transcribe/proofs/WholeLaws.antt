@@ -1,5 +1,5 @@
 -- The whole of what is told, file by file, is the feed of the definition.
-use Rattle.std.proofs.Common.{◌≡◌, ℕ, ◌+◌, ◌-◌, ◌^◌, ◌<◌, ◌≤◌, List, [], ◌∷◌, ◌++◌, length, Option, None, Some, Result, Ok, Err, refl, sym, ap, subst, ◌∙◌, arith, append-nil}
+use Rattle.std.proofs.Common.{◌≡◌, ◌⊎◌, inl, inr, ℕ, ◌+◌, ◌-◌, ◌^◌, ◌<◌, ◌≤◌, List, [], ◌∷◌, ◌++◌, length, Option, None, Some, Result, Ok, Err, refl, sym, ap, subst, ◌∙◌, arith, append-nil}
 use Rattle.std.proofs.lemmas.Bool.{cond-true, cond-false, lt-ltb, le-ltb}
 use Rattle.std.specs.Prelude.{nat_lt}
 use Rattle.list_laws.specs.Outcome.{◌>>=◌, Refuses}
@@ -25,12 +25,14 @@ use Rattle.log_transcribe.specs.Fault.{meant, of_logs, behind_meant, feed_error,
 use Rattle.log_transcribe.specs.Feed.{IsFeedOfLogs}
 use Rattle.log_transcribe.specs.Files.{GaveFrom, log_bytes}
 use Rattle.log_transcribe.specs.Further.{IsFeedBehind}
+use Rattle.log_transcribe.specs.Said.{feed_end}
+use Rattle.log_transcribe.specs.Standing.{IsByteBehind, IsByteIn, IsByteInBehind, IsByteOfFirst}
 use Rattle.log_transcribe.specs.Streamed.{EndsSo, IsUnreadAt}
 use Rattle.log_transcribe.specs.Transcript.{feed_told, feed_of_logs}
 use Rattle.log_transcribe.specs.Private.Bytes.{bytes_told}
 use Rattle.log_transcribe.specs.Private.Goes.{SequelValue}
-use Rattle.log_transcribe.specs.Private.Opens.{HasFirst, Gave, IsFirst, IsOpened, OpensBehind, logs_from, place_behind, stop_of}
-use Rattle.log_transcribe.specs.Private.Sends.{AreUnread, IsOfLogs, StopsAt, TellsAll, counted}
+use Rattle.log_transcribe.specs.Private.Opens.{HasFirst, Gave, IsFirst, IsOpened, OpensBehind, StopsFirst, logs_from, place_behind, stop_of}
+use Rattle.log_transcribe.specs.Private.Sends.{AreUnread, IsOfLogs, TellsAll, counted}
 use Rattle.log_transcribe.proofs.FeedLaws.{FeedLaws, feed_right}
 use Rattle.log_transcribe.proofs.FurtherLaws.{BehindLaws, further_right}
 use Rattle.log_transcribe.proofs.GoingLaws.{bytes-given, bytes-refused}
@@ -54,9 +56,9 @@ feed_unmade s logs fault e = rw e refl
 
 module _ (s : SourceTables) (Gives : ℕ → List ℕ → Type 0) (many : ℕ) where
   abbrev Ends : Result (Unit {0}) StreamError → Written → Written → Type 0
-  Ends result old new = EndsSo (λ logs. of_logs (feed_of_logs s logs)) (λ logs feed. IsSource s → IsFeedOfLogs s logs feed) Gives many result old new
+  Ends result old new = EndsSo (λ logs. of_logs (feed_of_logs s logs)) (λ logs fault byte. IsByteIn s logs fault byte) (λ logs feed. IsSource s → IsFeedOfLogs s logs feed) Gives many result old new
 
-  pub feed_written : FeedLaws → (size : ℕ) (old new : Written) → TellsAll (λ logs. feed_told s logs) Gives 0 many (Ok size) old new → size < 2 ^ 31 → Ends (Ok tt) old new
+  pub feed_written : FeedLaws → (size : ℕ) (old new : Written) → TellsAll (λ logs. feed_told s logs) (λ logs fault byte. IsByteIn s logs fault byte) Gives 0 many (Ok size) old new → size < 2 ^ 31 → Ends (Ok tt) old new
   feed_written laws size old new w short =
       let made : feed_of_logs s w.logs ≡ Ok w.feed = feed-given s w.logs w.feed w.is (short_by (length w.feed) size (2 ^ 31) w.many_bytes short (omega arith)) in
       record {
@@ -69,31 +71,31 @@ module _ (s : SourceTables) (Gives : ℕ → List ℕ → Type 0) (many : ℕ) w
         written = w.written;
       }
 
-  pub feed_too_long : (size : ℕ) (old new : Written) → TellsAll (λ logs. feed_told s logs) Gives 0 many (Ok size) old new → 2 ^ 31 ≤ size → Ends (Err (stop.Fault (TooLong many) None)) old new
-  feed_too_long size old new w long = (
-    record {
+  pub feed_too_long : (size : ℕ) (old new : Written) → TellsAll (λ logs. feed_told s logs) (λ logs fault byte. IsByteIn s logs fault byte) Gives 0 many (Ok size) old new → 2 ^ 31 ≤ size → Ends (Err (stop.Fault (TooLong many) None)) old new
+  feed_too_long size old new w long = record {
+    refused = record {
       logs = w.logs;
       gave = w.gave;
       is = λ others both.
           subst (λ (o : List (List ℕ)). of_logs (feed_of_logs s (w.logs ++ o)) ≡ Err (behind_fault.Logs (TooLong many))) (sym (no_others w.logs others 0 many w.all (omega (arith, both))))
           (ap (λ (r : Result (List ℕ) LogsFault). of_logs r) (ap (feed_of_logs s) (append-nil w.logs) ∙ feed-long s w.logs many w.feed (omega (arith, w.all)) w.is (long_by (length w.feed) size (2 ^ 31) w.many_bytes long)));
-    },
-    tt,
-  )
+    };
+    there = tt;
+  }
 
-  pub feed_stopped : (error : StreamError) (old new : Written) → TellsAll (λ logs. feed_told s logs) Gives 0 many (Err error) old new → StopsAt Gives error → Ends (Err error) old new
-  feed_stopped stop.Memory old new w at = tt
-  feed_stopped stop.Unwritten old new w at = w
-  feed_stopped (stop.Unread file) old new w at = unread_at Gives many file w
-  feed_stopped (stop.Feed fault) old new w at = absurd w
-  feed_stopped (stop.Fault fault byte) old new w at = (
-    record {
+  pub feed_stopped : (error : StreamError) (old new : Written) → TellsAll (λ logs. feed_told s logs) (λ logs fault byte. IsByteIn s logs fault byte) Gives 0 many (Err error) old new → Ends (Err error) old new
+  feed_stopped stop.Memory old new w = tt
+  feed_stopped stop.Unwritten old new w = w
+  feed_stopped (stop.Unread file) old new w = unread_at Gives many file w
+  feed_stopped (stop.Feed fault) old new w = absurd w
+  feed_stopped (stop.Fault fault byte) old new w = record {
+    refused = record {
       logs = w.logs;
       gave = w.gave;
       is = λ others both. ap (λ (r : Result (List ℕ) LogsFault). of_logs r) (feed_unmade s (w.logs ++ others) fault (w.is others (omega (arith, both))));
-    },
-    at,
-  )
+    };
+    there = w.there;
+  }
 
 -- ---- of logs behind a feed
 
@@ -113,7 +115,7 @@ behind_long r n size more e long =
 
 module _ (s : SourceTables) (feed : List ℕ) (Gives : ℕ → List ℕ → Type 0) (many : ℕ) where
   abbrev EndsBehind : Result (Unit {0}) StreamError → Written → Written → Type 0
-  EndsBehind result old new = EndsSo (λ logs. behind_of_logs s feed logs) (λ logs more. IsSource s → IsFeedBehind s feed logs more) Gives many result old new
+  EndsBehind result old new = EndsSo (λ logs. behind_of_logs s feed logs) (λ logs fault byte. IsByteInBehind s feed logs fault byte) (λ logs more. IsSource s → IsFeedBehind s feed logs more) Gives many result old new
 
   -- the first log can't be read
   pub first_unread : (error : StreamError) (old : Written) → IsFirst Gives many (Err error) → EndsBehind (Err error) old old
@@ -154,33 +156,45 @@ module _ (s : SourceTables) (feed : List ℕ) (Gives : ℕ → List ℕ → Type
   refused_so None [] fault first within is (o ∷ others) both = absurd (omega (arith, first, both))
 
   -- the feed, or where the first log begins
-  pub first_stops : (log : Option LogBytes) (error : StreamError) (old : Written) → HasFirst many log → Gave Gives log → OpensBehind s feed log (Err error) → StopsAt Gives error → EndsBehind (Err error) old old
-  first_stops log stop.Memory old first gave e at = tt
-  first_stops log stop.Unwritten old first gave e at = absurd e
-  first_stops log (stop.Unread file) old first gave e at = absurd e
-  first_stops log (stop.Feed fault) old first gave e at = record {
+  pub first_stops : (log : Option LogBytes) (error : StreamError) (old : Written) → HasFirst many log → Gave Gives log → OpensBehind s feed log (Err error) → EndsBehind (Err error) old old
+  first_stops log stop.Memory old first gave e = tt
+  first_stops log stop.Unwritten old first gave e = absurd e
+  first_stops log (stop.Unread file) old first gave e = absurd e
+  first_stops log (stop.Feed fault) old first gave e = record {
     logs = logs_from log [];
     gave = gave_all log [] gave tt;
     is = refused_so log [] (behind_fault.Feed fault) first (none_within log first) (λ others both. e others);
   }
-  first_stops log (stop.Fault fault byte) old first gave e at = (
-    record {
+  first_stops log (stop.Fault fault byte) old first gave e = record {
+    refused = record {
       logs = logs_from log [];
       gave = gave_all log [] gave tt;
-      is = refused_so log [] (behind_fault.Logs fault) first (none_within log first) (λ others both. e others);
-    },
-    at,
-  )
+      is = refused_so log [] (behind_fault.Logs fault) first (none_within log first) (λ others both. e.0 others);
+    };
+    there = e.1;
+  }
 
   module _ (log : Option LogBytes) (first : HasFirst many log) (gave : Gave Gives log) (q : SequelValue) (o : IsOpened s feed log q) where
     abbrev Tells : Result ℕ StreamError → Written → Written → Type 0
-    Tells result old new = TellsAll (λ others. behind_told q.source q.had q.along (logs_from log others)) Gives (place_behind log) many result old new
+    Tells result old new = TellsAll (λ others. behind_told q.source q.had q.along (logs_from log others)) (λ others fault byte. IsByteBehind 0 q.source q.had [] (logs_from log others) q.along fault byte) Gives (place_behind log) many result old new
 
     abbrev so : SequelValue → List (List ℕ) → Result (List (List EventValue)) LogsFault
     so q logs = behind_told q.source q.had q.along logs
 
     told_is : (logs : List (List ℕ)) → so q logs ≡ behind_told s o.had (along_of o.reached o.first o.had) logs
     told_is logs = ap (λ (q : SequelValue). so q logs) o.is
+
+    -- where a fault of theirs stands
+    gone_behind : (logs : List (List ℕ)) (fault : LogsFault) (byte : Option ℕ) → IsByteBehind 0 q.source q.had [] (logs_from log logs) q.along fault byte → IsByteInBehind s feed (logs_from log logs) fault byte
+    gone_behind logs fault byte is = inr (record {
+      reached = o.reached;
+      end = o.end;
+      first = o.first;
+      begins = o.begins logs;
+      had = o.had;
+      said = o.said;
+      byte_there = subst (λ (q : SequelValue). IsByteBehind 0 q.source q.had [] (logs_from log logs) q.along fault byte) o.is is;
+    })
 
     pub behind_written : BehindLaws → (size : ℕ) (old new : Written) → Tells (Ok size) old new → size < 2 ^ 31 - length feed → EndsBehind (Ok tt) old new
     behind_written laws size old new w short =
@@ -209,31 +223,31 @@ module _ (s : SourceTables) (feed : List ℕ) (Gives : ℕ → List ℕ → Type
         let told : bytes_told (behind_told s o.had (along_of o.reached o.first o.had) logs) ≡ Ok w.feed = ap (λ (r : Result (List (List EventValue)) LogsFault). bytes_told r) (sym (told_is logs)) ∙ w.is in
         let many_bytes : 2 ^ 31 - length feed ≤ length w.feed = long_by (length w.feed) size (2 ^ 31 - length feed) w.many_bytes long in
         let made : bytes_behind s feed o.had (along_of o.reached o.first o.had) logs ≡ Err (TooLong many) =
-        behind_long (behind_told s o.had (along_of o.reached o.first o.had) logs) (length logs) (length feed) w.feed told (omega (arith, many_bytes)) ∙ ap (λ (n : ℕ). Err (TooLong n)) (all_are log w.logs first w.all) in (
-          record {
+        behind_long (behind_told s o.had (along_of o.reached o.first o.had) logs) (length logs) (length feed) w.feed told (omega (arith, many_bytes)) ∙ ap (λ (n : ℕ). Err (TooLong n)) (all_are log w.logs first w.all) in record {
+          refused = record {
             logs = logs;
             gave = gave_all log w.logs gave w.gave;
             is = refused_so log w.logs (behind_fault.Logs (TooLong many)) first (omega (arith, w.all))
                 (λ others both. subst (λ (o : List (List ℕ)). behind_of_logs s feed (logs_from log (w.logs ++ o)) ≡ Err (behind_fault.Logs (TooLong many))) (sym (no_others w.logs others (place_behind log) many w.all both))
                 (subst (λ (ls : List (List ℕ)). behind_of_logs s feed (logs_from log ls) ≡ Err (behind_fault.Logs (TooLong many))) (sym (append-nil w.logs)) (faulty w.logs (TooLong many) made)));
-          },
-          tt,
-        )
+          };
+          there = gone_behind w.logs (TooLong many) None tt;
+        }
 
-    pub behind_stopped : (error : StreamError) (old new : Written) → Tells (Err error) old new → StopsAt Gives error → EndsBehind (Err error) old new
-    behind_stopped stop.Memory old new w at = tt
-    behind_stopped stop.Unwritten old new w at = w
-    behind_stopped (stop.Unread file) old new w at = unread_behind log file first gave w
-    behind_stopped (stop.Feed fault) old new w at = absurd w
-    behind_stopped (stop.Fault fault byte) old new w at = (
-      record {
+    pub behind_stopped : (error : StreamError) (old new : Written) → Tells (Err error) old new → EndsBehind (Err error) old new
+    behind_stopped stop.Memory old new w = tt
+    behind_stopped stop.Unwritten old new w = w
+    behind_stopped (stop.Unread file) old new w = unread_behind log file first gave w
+    behind_stopped (stop.Feed fault) old new w = absurd w
+    behind_stopped (stop.Fault fault byte) old new w = record {
+      refused = record {
         logs = logs_from log w.logs;
         gave = gave_all log w.logs gave w.gave;
         is = refused_so log w.logs (behind_fault.Logs fault) first w.within
             (λ others both. faulty (w.logs ++ others) fault (unmade o.had (along_of o.reached o.first o.had) (logs_from log (w.logs ++ others)) fault (sym (told_is (logs_from log (w.logs ++ others))) ∙ w.is others both)));
-      },
-      at,
-    )
+      };
+      there = gone_behind w.logs fault byte w.there;
+    }
 
 -- ---- what is wrong with the feed, or where the first log begins
 
@@ -242,13 +256,21 @@ module _ (s : SourceTables) (feed : List ℕ) (log : Option LogBytes) where
   feed_stops feed_fault.Memory e = tt
   feed_stops fault e = e
 
-  pub logs_stop : (error : LogsError) (stops : StreamError) → IsOfLogs error stops → ((others : List (List ℕ)) → Refuses behind_meant (error_of error) (behind_of_logs s feed (logs_from log others))) → OpensBehind s feed log (Err stops)
-  logs_stop logs_error.Memory stops is e = rw is tt
-  logs_stop (logs_error.Fault fault) stop.Memory is e = tt
-  logs_stop (logs_error.Fault fault) stop.Unwritten is e = absurd is
-  logs_stop (logs_error.Fault fault) (stop.Unread file) is e = absurd is
-  logs_stop (logs_error.Fault fault) (stop.Feed other) is e = absurd is
-  logs_stop (logs_error.Fault fault) (stop.Fault other byte) is e = rw is e
+  first_byte : (log : Option LogBytes) (fault : LogsFault) (byte : Option ℕ) → StopsFirst log (stop.Fault fault byte) → IsByteOfFirst (logs_from log []) fault byte
+  first_byte log fault None is = tt
+  first_byte None fault (Some byte) is = cc
+  first_byte (Some log) fault (Some byte) is = is
+
+  pub logs_stop : (reached : List Interval) (error : LogsError) (stops : StreamError) → feed_end s feed ≡ Ok reached → Refuses meant error (begun reached (logs_from log [])) → IsOfLogs error stops → StopsFirst log stops
+      → ((others : List (List ℕ)) → Refuses behind_meant (error_of error) (behind_of_logs s feed (logs_from log others))) → OpensBehind s feed log (Err stops)
+  logs_stop reached logs_error.Memory stops end begin is at e = rw is tt
+  logs_stop reached (logs_error.Fault fault) stop.Memory end begin is at e = tt
+  logs_stop reached (logs_error.Fault fault) stop.Unwritten end begin is at e = absurd is
+  logs_stop reached (logs_error.Fault fault) (stop.Unread file) end begin is at e = absurd is
+  logs_stop reached (logs_error.Fault fault) (stop.Feed other) end begin is at e = absurd is
+  logs_stop reached (logs_error.Fault fault) (stop.Fault other byte) end begin is at e =
+      let there = first_byte log fault byte (subst (λ (f : LogsFault). StopsFirst log (stop.Fault f byte)) is at) in
+      rw is (e, inl (reached, end, begin, there))
 
 -- where the logs begin the others have no part
 pub begun_same : (reached : List Interval) (log : Option LogBytes) (others : List (List ℕ)) → begun reached (logs_from log others) ≡ begun reached (logs_from log [])

@@ -1,6 +1,6 @@
 -- Where in its file a fault of logs stands (this profile): at the event that is at fault, or at the first one of the transaction
--- that can't be told. It is said by the file's first bytes: what these are as a log.
-use Rattle.std.specs.Prelude.{◌≡◌, ◌⊎◌, ℕ, ◌+◌, ◌≤◌, List, length, take, Option, None, Some, Ok}
+-- that can't be told, behind so many others. It is said by the file's first bytes: what these are as a log.
+use Rattle.std.specs.Prelude.{◌≡◌, ℕ, ◌+◌, ◌≤◌, List, length, take, Option, None, Some, Ok}
 use Rattle.log_events.specs.declared.fault.EventFault.{EventFault}
 use Rattle.log_events.specs.declared.fault.LogFault.{LogFault}
 use Rattle.log_events.specs.declared.fault.LogFault.TheVariants.{NoLog, Encrypted}
@@ -16,7 +16,6 @@ use Rattle.log_course.specs.declared.fault.CourseFault.TheVariants.{Log, Group, 
 use Rattle.log_laws.specs.declared.fault.TellFault.TheVariants.{Change, Position}
 use Rattle.log_transcribe.specs.declared.fault.LogsFault.{LogsFault}
 use Rattle.log_transcribe.specs.declared.fault.LogsFault.TheVariants.{Course, Tell, TooLong}
-use Rattle.log_transcribe.specs.Fault.{file_of}
 
 -- ---- a file's first bytes
 
@@ -73,45 +72,47 @@ byte_of_log NoLog = 0
 byte_of_log Encrypted = 0
 byte_of_log fault = 4
 
--- a transaction begins there, behind some others
-abbrev pub IsBeginning : List ℕ → ℕ → Type 0
-IsBeginning bytes byte = (transactions : ℕ) × BeginsAt bytes byte transactions
+-- the transaction at fault begins there: behind just so many of the file as are told, if it is begun with
+abbrev pub BeginsBehind : List ℕ → Option ℕ → ℕ → Type 0
+BeginsBehind bytes None byte = ⊥
+BeginsBehind bytes (Some told) byte = BeginsAt bytes byte told
 
 -- events: one that isn't read stands behind all others; a transaction that has no end begins there, and the file has no further
--- one; so does one whose XA transaction can't be prepared or ended; one that is still prepared is at fault where the events end;
--- any other fault is an event's
-abbrev pub GroupAt : List ℕ → GroupFault → ℕ → Type 0
-GroupAt bytes (Event fault) byte = EndsAt bytes byte (Some fault)
-GroupAt bytes Unended byte = (transactions : ℕ) × (events : ℕ) × BeginsAt bytes byte transactions × IsCut bytes (length bytes) events transactions (Some Unended)
-GroupAt bytes Twice byte = IsBeginning bytes byte
-GroupAt bytes NotPrepared byte = IsBeginning bytes byte
-GroupAt bytes StillPrepared byte = (fault : Option EventFault) × EndsAt bytes byte fault
-GroupAt bytes fault byte = FailsAt bytes byte fault
+-- one; the one whose XA transaction can't be prepared or ended begins there; one that is still prepared is at fault where the
+-- events end; any other fault is an event's
+abbrev pub GroupAt : List ℕ → Option ℕ → GroupFault → ℕ → Type 0
+GroupAt bytes told (Event fault) byte = EndsAt bytes byte (Some fault)
+GroupAt bytes told Unended byte = (transactions : ℕ) × (events : ℕ) × BeginsAt bytes byte transactions × IsCut bytes (length bytes) events transactions (Some Unended)
+GroupAt bytes told Twice byte = BeginsBehind bytes told byte
+GroupAt bytes told NotPrepared byte = BeginsBehind bytes told byte
+GroupAt bytes told StillPrepared byte = (fault : Option EventFault) × EndsAt bytes byte fault
+GroupAt bytes told fault byte = FailsAt bytes byte fault
 
 -- no event stands before it
 abbrev pub IsFirst : List ℕ → ℕ → Type 0
 IsFirst bytes byte = IsCut bytes byte 0 0 None
 
--- positions: of a transaction that has been before; of one that has no number, also in the list with which the file begins; any
--- other fault is that list's
-abbrev pub PlaceAt : List ℕ → PlaceFault → ℕ → Type 0
-PlaceAt bytes GoesBack byte = IsBeginning bytes byte
-PlaceAt bytes NoNumber byte = IsFirst bytes byte ⊎ IsBeginning bytes byte
-PlaceAt bytes fault byte = IsFirst bytes byte
+-- a position that has no number: that of a transaction, or in the list with which the file begins
+abbrev pub NoNumberAt : List ℕ → Option ℕ → ℕ → Type 0
+NoNumberAt bytes None byte = IsFirst bytes byte
+NoNumberAt bytes (Some told) byte = BeginsAt bytes byte told
 
-abbrev pub CourseAt : List ℕ → CourseFault → ℕ → Type 0
-CourseAt bytes (Log fault) byte = byte ≡ byte_of_log fault
-CourseAt bytes (Group fault) byte = GroupAt bytes fault byte
-CourseAt bytes (Place fault) byte = PlaceAt bytes fault byte
+-- positions: of a transaction that has been before, or that has no number; any other fault is of the list with which the file
+-- begins
+abbrev pub PlaceAt : List ℕ → Option ℕ → PlaceFault → ℕ → Type 0
+PlaceAt bytes told GoesBack byte = BeginsBehind bytes told byte
+PlaceAt bytes told NoNumber byte = NoNumberAt bytes told byte
+PlaceAt bytes told fault byte = IsFirst bytes byte
 
--- the fault stands at this byte of a file's bytes; a position that is too long, and a feed, have none
-abbrev pub StandsAt : List ℕ → LogsFault → ℕ → Type 0
-StandsAt bytes (Course file fault) byte = CourseAt bytes fault byte
-StandsAt bytes (Tell file (Change fault)) byte = IsBeginning bytes byte
-StandsAt bytes (Tell file Position) byte = ⊥
-StandsAt bytes (TooLong file) byte = ⊥
+abbrev pub CourseAt : List ℕ → Option ℕ → CourseFault → ℕ → Type 0
+CourseAt bytes told (Log fault) byte = byte ≡ byte_of_log fault
+CourseAt bytes told (Group fault) byte = GroupAt bytes told fault byte
+CourseAt bytes told (Place fault) byte = PlaceAt bytes told fault byte
 
--- where a byte is told, the fault stands there in bytes that its file gave
-abbrev pub IsByteOf : (ℕ → List ℕ → Type 0) → LogsFault → Option ℕ → Type 0
-IsByteOf Gives fault None = Unit {0}
-IsByteOf Gives fault (Some byte) = (bytes : List ℕ) × Gives (file_of fault) bytes × StandsAt bytes fault byte
+-- The fault stands at this byte of a file's bytes, of which so many transactions are told before it, or none where the file
+-- isn't begun with. A position that is too long, and a feed, have none.
+abbrev pub StandsAt : List ℕ → Option ℕ → LogsFault → ℕ → Type 0
+StandsAt bytes told (Course file fault) byte = CourseAt bytes told fault byte
+StandsAt bytes told (Tell file (Change fault)) byte = BeginsBehind bytes told byte
+StandsAt bytes told (Tell file Position) byte = ⊥
+StandsAt bytes told (TooLong file) byte = ⊥

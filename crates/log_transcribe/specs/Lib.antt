@@ -7,5 +7,6 @@ pub mod Behind
 pub mod Further
 pub mod Files
 pub mod Byte
+pub mod Standing
 pub mod Streamed
 pub mod Private

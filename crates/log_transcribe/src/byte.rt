@@ -1,10 +1,10 @@
 //! Whether a byte of a file is the one at which a fault stands: the file's first bytes are read once more.
 
-ghost use Rattle.std.specs.Prelude.{◌≡◌, ◌⊎◌, true, length, Some, IfOk, IfSome};
+ghost use Rattle.std.specs.Prelude.{◌≡◌, true, length, None, Some, IfOk, IfSome};
 ghost use Rattle.log_groups.specs.declared.fault.GroupFault.TheVariants.{Unended};
-ghost use Rattle.log_transcribe.specs.Byte.{BeginsAt, MayGoOn, FailsAt, EndsAt, IsBeginning, GroupAt, IsFirst, PlaceAt, CourseAt, StandsAt, IsByteOf, byte_of_log};
+ghost use Rattle.log_transcribe.specs.Byte.{BeginsAt, BeginsBehind, MayGoOn, FailsAt, EndsAt, GroupAt, IsFirst, NoNumberAt, PlaceAt, CourseAt, StandsAt, byte_of_log};
 ghost use Rattle.log_transcribe.specs.Private.Cuts.{AreCuts, Follows, IsCutAt};
-ghost use Rattle.log_transcribe.specs.Private.Sends.{IsOfLogs, StopsAt, OneFile};
+ghost use Rattle.log_transcribe.specs.Private.Sends.{IsByteAt, IsOfLogs, StopsAt};
 ghost use Rattle.log_transcribe.specs.declared.fault.LogsError.TheVariants as logs_error;
 
 use crate::events::behind_event;
@@ -163,17 +163,21 @@ fn beginning_at(
     Ok(None)
 }
 
-/// Whether a transaction begins at a byte.
-fn is_beginning(
+/// Whether a transaction begins at a byte behind just so many of the file.
+fn begins_behind(
     alloc: Global,
     table: &CrcTable,
     bytes: &[u8],
+    told: Option<usize>,
     byte: usize,
 ) -> Result<bool, AllocError>
-    ensures { IfOk result (λ is. is ≡ true → IsBeginning bytes.now byte) }
+    ensures { IfOk result (λ is. is ≡ true → BeginsBehind bytes.now told byte) }
 {
+    let Some(before) = told else {
+        return Ok(false);
+    };
     match beginning_at(alloc, table, bytes, byte)? {
-        Some(_) => Ok(true),
+        Some(many) => Ok(many == before),
         None => Ok(false),
     }
 }
@@ -185,7 +189,7 @@ fn is_unended(
     bytes: &[u8],
     byte: usize,
 ) -> Result<bool, AllocError>
-    ensures { IfOk result (λ is. is ≡ true → GroupAt bytes.now Unended byte) }
+    ensures { IfOk result (λ is. is ≡ true → GroupAt bytes.now None Unended byte) }
 {
     let Some(transactions) = beginning_at(alloc, table, bytes, byte)? else {
         return Ok(false);
@@ -259,10 +263,11 @@ fn group_at(
     alloc: Global,
     table: &CrcTable,
     bytes: &[u8],
+    told: Option<usize>,
     byte: usize,
     fault: GroupFault,
 ) -> Result<bool, AllocError>
-    ensures { IfOk result (λ is. is ≡ true → GroupAt bytes.now fault byte) }
+    ensures { IfOk result (λ is. is ≡ true → GroupAt bytes.now told fault byte) }
 {
     match fault {
         GroupFault::Event(fault) => {
@@ -274,20 +279,26 @@ fn group_at(
             Ok(end.is_some())
         }
         GroupFault::Unended => is_unended(alloc, table, bytes, byte),
-        GroupFault::Twice => is_beginning(alloc, table, bytes, byte),
-        GroupFault::NotPrepared => is_beginning(alloc, table, bytes, byte),
+        GroupFault::Twice => begins_behind(alloc, table, bytes, told, byte),
+        GroupFault::NotPrepared => begins_behind(alloc, table, bytes, told, byte),
         _ => is_failing(alloc, table, bytes, byte, fault),
     }
 }
 
-/// Whether no event stands before a byte, or a transaction begins there.
-fn is_either(alloc: Global, table: &CrcTable, bytes: &[u8], byte: usize) -> Result<bool, AllocError>
-    ensures { IfOk result (λ is. is ≡ true → IsFirst bytes.now byte ⊎ IsBeginning bytes.now byte) }
+/// Whether a position that has no number stands at a byte.
+fn no_number_at(
+    alloc: Global,
+    table: &CrcTable,
+    bytes: &[u8],
+    told: Option<usize>,
+    byte: usize,
+) -> Result<bool, AllocError>
+    ensures { IfOk result (λ is. is ≡ true → NoNumberAt bytes.now told byte) }
 {
-    if is_first(alloc, table, bytes, byte)? {
-        return Ok(true);
+    if told.is_none() {
+        return is_first(alloc, table, bytes, byte);
     }
-    is_beginning(alloc, table, bytes, byte)
+    begins_behind(alloc, table, bytes, told, byte)
 }
 
 /// Whether a fault of positions stands at a byte.
@@ -295,14 +306,15 @@ fn place_at(
     alloc: Global,
     table: &CrcTable,
     bytes: &[u8],
+    told: Option<usize>,
     byte: usize,
     fault: PlaceFault,
 ) -> Result<bool, AllocError>
-    ensures { IfOk result (λ is. is ≡ true → PlaceAt bytes.now fault byte) }
+    ensures { IfOk result (λ is. is ≡ true → PlaceAt bytes.now told fault byte) }
 {
     match fault {
-        PlaceFault::GoesBack => is_beginning(alloc, table, bytes, byte),
-        PlaceFault::NoNumber => is_either(alloc, table, bytes, byte),
+        PlaceFault::GoesBack => begins_behind(alloc, table, bytes, told, byte),
+        PlaceFault::NoNumber => no_number_at(alloc, table, bytes, told, byte),
         _ => is_first(alloc, table, bytes, byte),
     }
 }
@@ -323,31 +335,33 @@ fn course_at(
     alloc: Global,
     table: &CrcTable,
     bytes: &[u8],
+    told: Option<usize>,
     byte: usize,
     fault: CourseFault,
 ) -> Result<bool, AllocError>
-    ensures { IfOk result (λ is. is ≡ true → CourseAt bytes.now fault byte) }
+    ensures { IfOk result (λ is. is ≡ true → CourseAt bytes.now told fault byte) }
 {
     match fault {
         CourseFault::Log(fault) => Ok(byte == byte_of_log(fault)),
-        CourseFault::Group(fault) => group_at(alloc, table, bytes, byte, fault),
-        CourseFault::Place(fault) => place_at(alloc, table, bytes, byte, fault),
+        CourseFault::Group(fault) => group_at(alloc, table, bytes, told, byte, fault),
+        CourseFault::Place(fault) => place_at(alloc, table, bytes, told, byte, fault),
     }
 }
 
-/// Whether a fault stands at a byte.
+/// Whether a fault stands at a byte of a file, of which so many transactions are told, or none where it isn't begun with.
 fn stands_at(
     alloc: Global,
     table: &CrcTable,
     bytes: &[u8],
+    told: Option<usize>,
     byte: usize,
     fault: LogsFault,
 ) -> Result<bool, AllocError>
-    ensures { IfOk result (λ is. is ≡ true → StandsAt bytes.now fault byte) }
+    ensures { IfOk result (λ is. is ≡ true → StandsAt bytes.now told fault byte) }
 {
     match fault {
-        LogsFault::Course(_, fault) => course_at(alloc, table, bytes, byte, fault),
-        LogsFault::Tell(_, TellFault::Change(_)) => is_beginning(alloc, table, bytes, byte),
+        LogsFault::Course(_, fault) => course_at(alloc, table, bytes, told, byte, fault),
+        LogsFault::Tell(_, TellFault::Change(_)) => begins_behind(alloc, table, bytes, told, byte),
         LogsFault::Tell(_, TellFault::Position) => Ok(false),
         LogsFault::TooLong(_) => Ok(false),
     }
@@ -357,20 +371,17 @@ fn stands_at(
 fn byte_of(
     alloc: Global,
     table: &CrcTable,
-    file: usize,
     bytes: &[u8],
+    told: Option<usize>,
     fault: LogsFault,
     byte: Option<usize>,
 ) -> Result<Option<usize>, AllocError>
-    ensures { IfOk result (λ byte. IsByteOf (OneFile file bytes.now) fault byte) }
+    ensures { IfOk result (λ byte. IsByteAt bytes.now told fault byte) }
 {
     let Some(place) = byte else {
         return Ok(None);
     };
-    if fault.file() != file {
-        return Ok(None);
-    }
-    if stands_at(alloc, table, bytes, place, fault)? {
+    if stands_at(alloc, table, bytes, told, place, fault)? {
         return Ok(Some(place));
     }
     Ok(None)
@@ -380,15 +391,15 @@ fn byte_of(
 pub(crate) fn told_at(
     alloc: Global,
     table: &CrcTable,
-    file: usize,
     bytes: &[u8],
+    told: Option<usize>,
     fault: LogsFault,
     byte: Option<usize>,
 ) -> StreamError
     ensures error { IsOfLogs (logs_error.Fault fault) result }
-    ensures byte { StopsAt (OneFile file bytes.now) result }
+    ensures byte { StopsAt bytes.now told result }
 {
-    match byte_of(alloc, table, file, bytes, fault, byte) {
+    match byte_of(alloc, table, bytes, told, fault, byte) {
         Ok(byte) => StreamError::Fault(fault, byte),
         Err(_) => StreamError::Memory,
     }

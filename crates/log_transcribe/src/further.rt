@@ -8,10 +8,11 @@ ghost use Rattle.log_transcribe.specs.Fault.{meant, behind_meant};
 ghost use Rattle.log_transcribe.specs.Transcript.{source_value};
 ghost use Rattle.log_transcribe.specs.Behind.{listed_first, first_list, begun_by, begun, unsaid, logs_behind, behind_told, behind_of_logs};
 ghost use Rattle.log_transcribe.specs.Further.{IsFeedBehind};
+ghost use Rattle.log_transcribe.specs.Standing.{IsByteBehind, IsByteInBehind};
 ghost use Rattle.log_transcribe.specs.Streamed.{EndsSo};
 ghost use Rattle.log_transcribe.specs.Files.{log_bytes};
-ghost use Rattle.log_transcribe.specs.Private.Opens.{HasFirst, IsFirst, OfFirst, OpensBehind, OrFirst, logs_from, place_behind, stop_of};
-ghost use Rattle.log_transcribe.specs.Private.Sends.{IsOfLogs, OrFile, PutsFiles, PutsSpan, StopsAt, TellsAll, TellsByte, behind_error_of, sending};
+ghost use Rattle.log_transcribe.specs.Private.Opens.{HasFirst, IsFirst, OpensBehind, StopsFirst, logs_from, place_behind, stop_of};
+ghost use Rattle.log_transcribe.specs.Private.Sends.{IsOfLogs, PutsFiles, PutsSpan, TellsAll, behind_error_of, sending};
 
 use crate::fault::{BehindError, BehindFault, LogsError, LogsFault, StreamError};
 use crate::files::{LentLogs, LogBytes, LogFiles, ReadFault};
@@ -127,10 +128,10 @@ fn of_first(
     error: LogsError,
 ) -> StreamError
     ensures error { IsOfLogs error result }
-    ensures byte { StopsAt (OfFirst log.now) result }
+    ensures byte { StopsFirst log.now result }
 {
     match log {
-        Some(log) => at_begin(alloc, table, 0, log.as_slice(), error),
+        Some(log) => at_begin(alloc, table, log.as_slice(), error),
         None => nowhere(error),
     }
 }
@@ -157,8 +158,7 @@ fn opened_behind<'t, 'w>(
     feed: &[u8],
     log: &Option<LogBytes<'_>>,
 ) -> Result<Sequel<'t, 'w>, StreamError>
-    ensures opens { OpensBehind (source_value source.entry) feed.now log.now result }
-    ensures byte { TellsByte (OfFirst log.now) result }
+    ensures { OpensBehind (source_value source.entry) feed.now log.now result }
 {
     let reached = match end_of(alloc, source, feed) {
         Ok(reached) => reached,
@@ -190,8 +190,7 @@ fn send_all<L: LogFiles, W: Out>(
     log: Option<LogBytes<'_>>,
 ) -> Result<(), StreamError>
     requires { HasFirst (L.many files.now) log }
-    ensures told { PutsFiles (λ others. logs_behind 0 sequel.old.source sequel.old.had [] (logs_from log.entry others) sequel.old.along) (L.gives files.now) (place_behind log.entry) (L.many files.now) sequel.new.along result (sending (W.written out.old) outgoing.old) (sending (W.written out.new) outgoing.new) }
-    ensures byte { TellsByte (OrFirst log.entry (L.gives files.now)) result }
+    ensures told { PutsFiles (λ others. logs_behind 0 sequel.old.source sequel.old.had [] (logs_from log.entry others) sequel.old.along) (λ others fault byte. IsByteBehind 0 sequel.old.source sequel.old.had [] (logs_from log.entry others) sequel.old.along fault byte) (L.gives files.now) (place_behind log.entry) (L.many files.now) sequel.new.along result (sending (W.written out.old) outgoing.old) (sending (W.written out.new) outgoing.new) }
     ensures source { sequel.new.source ≡ sequel.old.source }
     ensures had { sequel.new.had ≡ sequel.old.had }
 {
@@ -215,8 +214,7 @@ fn send_first<L: LogFiles, W: Out>(
     log: LogBytes<'_>,
 ) -> Result<usize, StreamError>
     requires { 1 ≤ L.many files.now }
-    ensures told { PutsSpan (λ others. logs_behind 0 sequel.old.source sequel.old.had [] (log_bytes log.entry ∷ others) sequel.old.along) (λ at left logs along. logs_behind at sequel.old.source sequel.old.had left logs along) (L.gives files.now) 1 (L.many files.now) sequel.new.along result (sending (W.written out.old) outgoing.old) (sending (W.written out.new) outgoing.new) }
-    ensures byte { TellsByte (OrFile 0 (log_bytes log.entry) (L.gives files.now)) result }
+    ensures told { PutsSpan (λ others. logs_behind 0 sequel.old.source sequel.old.had [] (log_bytes log.entry ∷ others) sequel.old.along) (λ others fault byte. IsByteBehind 0 sequel.old.source sequel.old.had [] (log_bytes log.entry ∷ others) sequel.old.along fault byte) (λ at left logs along. logs_behind at sequel.old.source sequel.old.had left logs along) (λ at left logs along fault byte. IsByteBehind at sequel.old.source sequel.old.had left logs along fault byte) (L.gives files.now) 1 (L.many files.now) sequel.new.along result (sending (W.written out.old) outgoing.old) (sending (W.written out.new) outgoing.new) }
     ensures within { IfOk result (λ next. next ≤ L.many files.now) }
     ensures source { sequel.new.source ≡ sequel.old.source }
     ensures had { sequel.new.had ≡ sequel.old.had }
@@ -244,8 +242,7 @@ fn told_behind<L: LogFiles, W: Out>(
     log: Option<LogBytes<'_>>,
 ) -> Result<usize, StreamError>
     requires { HasFirst (L.many files.now) log }
-    ensures told { TellsAll (λ others. behind_told sequel.entry.source sequel.entry.had sequel.entry.along (logs_from log.entry others)) (L.gives files.now) (place_behind log.entry) (L.many files.now) result (W.written out.old) (W.written out.new) }
-    ensures byte { TellsByte (OrFirst log.entry (L.gives files.now)) result }
+    ensures { TellsAll (λ others. behind_told sequel.entry.source sequel.entry.had sequel.entry.along (logs_from log.entry others)) (λ others fault byte. IsByteBehind 0 sequel.entry.source sequel.entry.had [] (logs_from log.entry others) sequel.entry.along fault byte) (L.gives files.now) (place_behind log.entry) (L.many files.now) result (W.written out.old) (W.written out.new) }
 {
     let mut sequel = sequel;
     let mut outgoing = Outgoing::new(alloc);
@@ -282,7 +279,7 @@ pub fn transcribe_behind_to<L: LogFiles, W: Out>(
     out: &mut W,
 ) -> Result<(), StreamError>
     // With what is written the feed has its groups, and behind them just those of the transactions that it didn't have.
-    ensures { EndsSo (λ logs. behind_of_logs (source_value source.entry) feed.items logs) (λ logs more. IsSource (source_value source.entry) → IsFeedBehind (source_value source.entry) feed.items logs more) (L.gives files.now) (L.many files.now) result (W.written out.old) (W.written out.new) }
+    ensures { EndsSo (λ logs. behind_of_logs (source_value source.entry) feed.items logs) (λ logs fault byte. IsByteInBehind (source_value source.entry) feed.items logs fault byte) (λ logs more. IsSource (source_value source.entry) → IsFeedBehind (source_value source.entry) feed.items logs more) (L.gives files.now) (L.many files.now) result (W.written out.old) (W.written out.new) }
 {
     transactions_are_told();
     transactions_reach();

@@ -1,6 +1,7 @@
 //! Where in its file a fault stands: the first byte of the event that is at fault, or of the transaction that can't be told.
 
-ghost use Rattle.log_transcribe.specs.Private.Sends.{IsOfLogs, NoFile, OneFile, StopsAt};
+ghost use Rattle.std.specs.Prelude.{None, Some};
+ghost use Rattle.log_transcribe.specs.Private.Sends.{IsOfLogs, StopsAt, StopsNowhere};
 
 use crate::byte::told_at;
 use crate::events::{behind_description, first_of_transaction, last_before};
@@ -53,18 +54,17 @@ fn place_of(bytes: &[u8], begin: usize, end: usize, fault: LogsFault) -> Option<
 pub(crate) fn at_begin(
     alloc: Global,
     table: &CrcTable,
-    file: usize,
     bytes: &[u8],
     error: LogsError,
 ) -> StreamError
     ensures error { IsOfLogs error result }
-    ensures byte { StopsAt (OneFile file bytes.now) result }
+    ensures byte { StopsAt bytes.now None result }
 {
     match error {
         LogsError::Memory => StreamError::Memory,
         LogsError::Fault(fault) => {
             let byte = byte_at_begin(bytes, fault);
-            told_at(alloc, table, file, bytes, fault, byte)
+            told_at(alloc, table, bytes, None, fault, byte)
         }
     }
 }
@@ -77,24 +77,24 @@ fn byte_at_begin(bytes: &[u8], fault: LogsFault) -> Option<usize> {
     }
 }
 
-/// What is wrong with a file's transaction behind the byte `begin`, up to `end`.
+/// What is wrong with a file's transaction behind the byte `begin`, up to `end`, and behind so many that are told.
 pub(crate) fn inside(
     alloc: Global,
     table: &CrcTable,
-    file: usize,
     bytes: &[u8],
     begin: usize,
     end: usize,
+    told: usize,
     error: LogsError,
 ) -> StreamError
     ensures error { IsOfLogs error result }
-    ensures byte { StopsAt (OneFile file bytes.now) result }
+    ensures byte { StopsAt bytes.now (Some told) result }
 {
     match error {
         LogsError::Memory => StreamError::Memory,
         LogsError::Fault(fault) => {
             let byte = place_of(bytes, begin, end, fault);
-            told_at(alloc, table, file, bytes, fault, byte)
+            told_at(alloc, table, bytes, Some(told), fault, byte)
         }
     }
 }
@@ -103,24 +103,23 @@ pub(crate) fn inside(
 pub(crate) fn at_end(
     alloc: Global,
     table: &CrcTable,
-    file: usize,
     bytes: &[u8],
     read: usize,
     error: LogsError,
 ) -> StreamError
     ensures error { IsOfLogs error result }
-    ensures byte { StopsAt (OneFile file bytes.now) result }
+    ensures byte { StopsAt bytes.now None result }
 {
     match error {
         LogsError::Memory => StreamError::Memory,
-        LogsError::Fault(fault) => told_at(alloc, table, file, bytes, fault, Some(read)),
+        LogsError::Fault(fault) => told_at(alloc, table, bytes, None, fault, Some(read)),
     }
 }
 
 /// What is wrong with no event.
 pub(crate) fn nowhere(error: LogsError) -> StreamError
     ensures error { IsOfLogs error result }
-    ensures byte { StopsAt NoFile result }
+    ensures byte { StopsNowhere result }
 {
     match error {
         LogsError::Memory => StreamError::Memory,

@@ -1,21 +1,22 @@
 //! How far logs are told behind a feed.
 
-ghost use Rattle.std.specs.Prelude.{◌≡◌, ◌≤◌, ◌<◌, ◌+◌, [], ◌∷◌, length, map, IfOk};
+ghost use Rattle.std.specs.Prelude.{◌≡◌, ◌≤◌, ◌<◌, ◌+◌, [], ◌∷◌, length, map, Some, IfOk};
 ghost use Rattle.list_laws.specs.Outcome.{GivesUnless};
 ghost use Rattle.log_groups.specs.GroupCalls.{waiting_value};
 ghost use Rattle.log_course.specs.Calls.{placed_value};
 ghost use Rattle.log_transcribe.specs.Fault.{meant};
 ghost use Rattle.log_transcribe.specs.Transcript.{source_value};
 ghost use Rattle.log_transcribe.specs.Behind.{group_behind, log_behind, logs_behind, along_of};
+ghost use Rattle.log_transcribe.specs.Standing.{IsByteBehind, many_told, told_behind};
 ghost use Rattle.log_transcribe.specs.Private.Bytes.{KeepsWaiting};
 ghost use Rattle.log_transcribe.specs.Private.Goes.{with_going, reading_behind, GoesNext};
-ghost use Rattle.log_transcribe.specs.Private.Sends.{OneFile, OrFile, Puts, PutsFiles, PutsLog, PutsOne, PutsSpan, TellsByte, sending};
+ghost use Rattle.log_transcribe.specs.Private.Sends.{CountsOne, CountsSent, Puts, PutsFiles, PutsLog, PutsOne, PutsSpan, TellsByte, sending};
 
 use crate::fault::{LogsError, StreamError};
 use crate::files::{LogFiles, ReadFault};
 use crate::outgoing::Outgoing;
 use crate::place::{at_begin, bytes_read, inside};
-use crate::transcript::{FeedSource, LogEnd, Transcript, copy_of, of_course};
+use crate::transcript::{FeedSource, LogEnd, Transcript, copy_of, of_course, one_more};
 use gtid_set::GtidSet;
 use log_course::{LogGroups, PlacedGroup};
 use log_events::CrcTable;
@@ -87,6 +88,7 @@ impl<'t, 'w> Sequel<'t, 'w> {
         groups: &mut LogGroups<'_, '_>,
     ) -> Result<bool, LogsError>
         ensures told { GoesNext file self.old.source self.old.had groups.old.groups result groups.new.groups self.old.along self.new.along out.old.items out.new.items }
+        ensures counts { CountsOne result (many_told (λ g a. group_behind file self.old.source self.old.had g a) groups.old.groups.items self.old.along) (many_told (λ g a. group_behind file self.old.source self.old.had g a) groups.new.groups.items self.new.along) }
         ensures waiting { KeepsWaiting groups.old result groups.new }
         ensures source { self.new.source ≡ self.old.source }
         ensures had { self.new.had ≡ self.old.had }
@@ -111,9 +113,11 @@ impl<'t, 'w> Sequel<'t, 'w> {
         file: usize,
         bytes: &[u8],
         groups: &mut LogGroups<'_, '_>,
+        told: usize,
     ) -> Result<bool, StreamError>
         ensures told { PutsOne (reading_behind file self.old.source self.old.had groups.old.groups self.old.along) (reading_behind file self.old.source self.old.had groups.new.groups self.new.along) self.new.along (length groups.old.groups.items) (length groups.new.groups.items) result (sending (W.written out.old) outgoing.old) (sending (W.written out.new) outgoing.new) }
-        ensures byte { TellsByte (OneFile file bytes.now) result }
+        ensures byte { TellsByte bytes.now (Some (told + many_told (λ g a. group_behind file self.old.source self.old.had g a) groups.old.groups.items self.old.along)) result }
+        ensures counts { CountsSent result (many_told (λ g a. group_behind file self.old.source self.old.had g a) groups.old.groups.items self.old.along) (many_told (λ g a. group_behind file self.old.source self.old.had g a) groups.new.groups.items self.new.along) }
         ensures waiting { KeepsWaiting groups.old result groups.new }
         ensures source { self.new.source ≡ self.old.source }
         ensures had { self.new.had ≡ self.old.had }
@@ -123,7 +127,7 @@ impl<'t, 'w> Sequel<'t, 'w> {
             Ok(more) => more,
             Err(error) => {
                 let end = bytes_read(bytes, groups);
-                return Err(inside(alloc, table, file, bytes, begin, end, error));
+                return Err(inside(alloc, table, bytes, begin, end, told, error));
             }
         };
         match outgoing.send_portion(out) {
@@ -144,14 +148,15 @@ impl<'t, 'w> Sequel<'t, 'w> {
         groups: LogGroups<'_, 'b>,
     ) -> Result<LogEnd<'b>, StreamError>
         ensures told { Puts (reading_behind file self.old.source self.old.had groups.entry.groups self.old.along) self.new.along result (sending (W.written out.old) outgoing.old) (sending (W.written out.new) outgoing.new) }
-        ensures byte { TellsByte (OneFile file bytes.now) result }
+        ensures byte { TellsByte bytes.now (Some (many_told (λ g a. group_behind file self.old.source self.old.had g a) groups.entry.groups.items self.old.along)) result }
         ensures waiting { IfOk result (λ end. map waiting_value end.waiting.items ≡ groups.entry.waiting) }
         ensures source { self.new.source ≡ self.old.source }
         ensures had { self.new.had ≡ self.old.had }
     {
         let mut groups = groups;
+        let mut told: usize = 0;
         loop {
-            match self.send_next(alloc, out, outgoing, table, file, bytes, &mut groups) {
+            match self.send_next(alloc, out, outgoing, table, file, bytes, &mut groups, told) {
                 Ok(more) => {
                     if !more {
                         let read = bytes_read(bytes, &groups);
@@ -159,6 +164,10 @@ impl<'t, 'w> Sequel<'t, 'w> {
                             waiting: groups.into_waiting(),
                             read,
                         });
+                    }
+                    match one_more(told) {
+                        Ok(all) => told = all,
+                        Err(_) => return Err(StreamError::Memory),
                     }
                 }
                 Err(error) => return Err(error),
@@ -178,14 +187,14 @@ impl<'t, 'w> Sequel<'t, 'w> {
         bytes: &'b [u8],
     ) -> Result<LogEnd<'b>, StreamError>
         ensures told { PutsLog (log_behind file self.old.source self.old.had (map waiting_value waiting.entry.items) bytes.now self.old.along) (λ end. map waiting_value end.waiting.items) self.new.along result (sending (W.written out.old) outgoing.old) (sending (W.written out.new) outgoing.new) }
-        ensures byte { TellsByte (OneFile file bytes.now) result }
+        ensures byte { TellsByte bytes.now (told_behind file self.old.source self.old.had (map waiting_value waiting.entry.items) bytes.now self.old.along) result }
         ensures source { self.new.source ≡ self.old.source }
         ensures had { self.new.had ≡ self.old.had }
     {
         let reached = copy_of(alloc, &self.logs)?;
         match LogGroups::open(alloc, table, reached, waiting, bytes) {
             Ok(groups) => self.send_groups(alloc, out, outgoing, table, file, bytes, groups),
-            Err(error) => Err(at_begin(alloc, table, file, bytes, of_course(file, error))),
+            Err(error) => Err(at_begin(alloc, table, bytes, of_course(file, error))),
         }
     }
 
@@ -204,8 +213,7 @@ impl<'t, 'w> Sequel<'t, 'w> {
         bytes: &'b [u8],
     ) -> Result<usize, StreamError>
         requires { file < L.many files.now }
-        ensures told { PutsSpan (λ logs. logs_behind file self.old.source self.old.had (map waiting_value waiting.entry.items) (bytes.now ∷ logs) self.old.along) (λ at left logs along. logs_behind at self.old.source self.old.had left logs along) (L.gives files.now) (file + 1) (L.many files.now) self.new.along result (sending (W.written out.old) outgoing.old) (sending (W.written out.new) outgoing.new) }
-        ensures byte { TellsByte (OrFile file bytes.now (L.gives files.now)) result }
+        ensures told { PutsSpan (λ logs. logs_behind file self.old.source self.old.had (map waiting_value waiting.entry.items) (bytes.now ∷ logs) self.old.along) (λ logs fault byte. IsByteBehind file self.old.source self.old.had (map waiting_value waiting.entry.items) (bytes.now ∷ logs) self.old.along fault byte) (λ at left logs along. logs_behind at self.old.source self.old.had left logs along) (λ at left logs along fault byte. IsByteBehind at self.old.source self.old.had left logs along fault byte) (L.gives files.now) (file + 1) (L.many files.now) self.new.along result (sending (W.written out.old) outgoing.old) (sending (W.written out.new) outgoing.new) }
         ensures more { IfOk result (λ next. file < next) }
         ensures within { IfOk result (λ next. next ≤ L.many files.now) }
         ensures source { self.new.source ≡ self.old.source }
@@ -223,7 +231,7 @@ impl<'t, 'w> Sequel<'t, 'w> {
         if next < count {
             return self.send_file(alloc, out, outgoing, table, files, next, end.waiting);
         }
-        match end.settle(alloc, table, file, bytes, next) {
+        match end.settle(alloc, table, bytes, next) {
             Ok(()) => Ok(next),
             Err(error) => Err(error),
         }
@@ -242,8 +250,7 @@ impl<'t, 'w> Sequel<'t, 'w> {
         waiting: Vec<Waiting<'_>>,
     ) -> Result<usize, StreamError>
         requires { file < L.many files.now }
-        ensures told { PutsSpan (λ logs. logs_behind file self.old.source self.old.had (map waiting_value waiting.entry.items) logs self.old.along) (λ at left logs along. logs_behind at self.old.source self.old.had left logs along) (L.gives files.now) file (L.many files.now) self.new.along result (sending (W.written out.old) outgoing.old) (sending (W.written out.new) outgoing.new) }
-        ensures byte { TellsByte (L.gives files.now) result }
+        ensures told { PutsSpan (λ logs. logs_behind file self.old.source self.old.had (map waiting_value waiting.entry.items) logs self.old.along) (λ logs fault byte. IsByteBehind file self.old.source self.old.had (map waiting_value waiting.entry.items) logs self.old.along fault byte) (λ at left logs along. logs_behind at self.old.source self.old.had left logs along) (λ at left logs along fault byte. IsByteBehind at self.old.source self.old.had left logs along fault byte) (L.gives files.now) file (L.many files.now) self.new.along result (sending (W.written out.old) outgoing.old) (sending (W.written out.new) outgoing.new) }
         ensures more { IfOk result (λ next. file < next) }
         ensures within { IfOk result (λ next. next ≤ L.many files.now) }
         ensures source { self.new.source ≡ self.old.source }
@@ -276,8 +283,7 @@ impl<'t, 'w> Sequel<'t, 'w> {
         from: usize,
     ) -> Result<(), StreamError>
         requires { from ≤ L.many files.now }
-        ensures told { PutsFiles (λ logs. logs_behind from self.old.source self.old.had [] logs self.old.along) (L.gives files.now) from (L.many files.now) self.new.along result (sending (W.written out.old) outgoing.old) (sending (W.written out.new) outgoing.new) }
-        ensures byte { TellsByte (L.gives files.now) result }
+        ensures told { PutsFiles (λ logs. logs_behind from self.old.source self.old.had [] logs self.old.along) (λ logs fault byte. IsByteBehind from self.old.source self.old.had [] logs self.old.along fault byte) (L.gives files.now) from (L.many files.now) self.new.along result (sending (W.written out.old) outgoing.old) (sending (W.written out.new) outgoing.new) }
         ensures source { self.new.source ≡ self.old.source }
         ensures had { self.new.had ≡ self.old.had }
     {

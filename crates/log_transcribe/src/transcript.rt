@@ -1,6 +1,6 @@
 //! The feed of logs.
 
-ghost use Rattle.std.specs.Prelude.{◌≡◌, ◌<◌, ◌≤◌, ◌+◌, true, [], ◌∷◌, length, map, replicate, IfOk};
+ghost use Rattle.std.specs.Prelude.{◌≡◌, ◌<◌, ◌≤◌, ◌+◌, true, [], ◌∷◌, length, map, replicate, None, Some, IfOk};
 ghost use Rattle.list_laws.specs.Outcome.{GivesUnless};
 ghost use Rattle.log_feed.specs.declared.table.Stage.TheVariants.{Absent};
 ghost use Rattle.log_groups.specs.GroupCalls.{waiting_value};
@@ -10,9 +10,10 @@ ghost use Rattle.log_laws.specs.Transcript.{group_told, last_told};
 ghost use Rattle.log_transcribe.specs.Fault.{meant, of_logs, of_tell};
 ghost use Rattle.log_transcribe.specs.Transcript.{source_value, course_told, log_told, none_waits, logs_told, nothing_told, feed_told, feed_of_logs};
 ghost use Rattle.log_transcribe.specs.Feed.{IsFeedOfLogs};
+ghost use Rattle.log_transcribe.specs.Standing.{IsByteIn, IsByteOfLogs, many_told, told_in};
 ghost use Rattle.log_transcribe.specs.Streamed.{EndsSo};
 ghost use Rattle.log_transcribe.specs.Private.Bytes.{course_error_at, change_error_at, tell_error_at, with_messages, last_with, PutsNext, KeepsWaiting};
-ghost use Rattle.log_transcribe.specs.Private.Sends.{NoFile, OneFile, OrFile, Puts, PutsEnd, PutsFiles, PutsLog, PutsOne, PutsSpan, Stills, TellsAll, TellsByte, logs_error_of, sending};
+ghost use Rattle.log_transcribe.specs.Private.Sends.{CountsOne, CountsSent, Puts, PutsEnd, PutsFiles, PutsLog, PutsOne, PutsSpan, Stills, TellsAll, TellsByte, TellsNone, logs_error_of, sending};
 
 use crate::fault::{LogsError, LogsFault, StreamError, TellError};
 use crate::files::{LentLogs, LogFiles, ReadFault};
@@ -84,16 +85,15 @@ impl LogEnd<'_> {
         &self,
         alloc: Global,
         table: &CrcTable,
-        file: usize,
         bytes: &[u8],
         next: usize,
     ) -> Result<(), StreamError>
         ensures told { Stills (none_waits next (map waiting_value self.now.waiting.items)) result }
-        ensures byte { TellsByte (OneFile file bytes.now) result }
+        ensures byte { TellsByte bytes.now None result }
     {
         match none_waits(next, &self.waiting) {
             Ok(()) => Ok(()),
-            Err(error) => Err(at_end(alloc, table, file, bytes, self.read, error)),
+            Err(error) => Err(at_end(alloc, table, bytes, self.read, error)),
         }
     }
 }
@@ -105,6 +105,16 @@ pub(crate) fn copy_of(alloc: Global, position: &GtidSet) -> Result<GtidSet, Allo
     match position.try_clone(alloc) {
         Ok(copy) => Ok(copy),
         Err(_) => Err(AllocError),
+    }
+}
+
+/// One transaction more.
+pub(crate) fn one_more(told: usize) -> Result<usize, AllocError>
+    ensures { IfOk result (λ all. all ≡ told + 1) }
+{
+    match told.checked_add(1) {
+        Some(all) => Ok(all),
+        None => Err(AllocError),
     }
 }
 
@@ -194,6 +204,7 @@ impl<'t, 'w> Transcript<'t, 'w> {
         groups: &mut LogGroups<'_, '_>,
     ) -> Result<bool, LogsError>
         ensures told { PutsNext file self.old.source groups.old.groups result groups.new.groups self.old.far self.new.far out.old.items out.new.items }
+        ensures counts { CountsOne result (many_told (λ g f. group_told self.old.source g f) groups.old.groups.items self.old.far) (many_told (λ g f. group_told self.old.source g f) groups.new.groups.items self.new.far) }
         ensures waiting { KeepsWaiting groups.old result groups.new }
         ensures source { self.new.source ≡ self.old.source }
     {
@@ -217,9 +228,11 @@ impl<'t, 'w> Transcript<'t, 'w> {
         file: usize,
         bytes: &[u8],
         groups: &mut LogGroups<'_, '_>,
+        told: usize,
     ) -> Result<bool, StreamError>
         ensures told { PutsOne (course_told file self.old.source groups.old.groups self.old.far) (course_told file self.old.source groups.new.groups self.new.far) self.new.far (length groups.old.groups.items) (length groups.new.groups.items) result (sending (W.written out.old) outgoing.old) (sending (W.written out.new) outgoing.new) }
-        ensures byte { TellsByte (OneFile file bytes.now) result }
+        ensures byte { TellsByte bytes.now (Some (told + many_told (λ g f. group_told self.old.source g f) groups.old.groups.items self.old.far)) result }
+        ensures counts { CountsSent result (many_told (λ g f. group_told self.old.source g f) groups.old.groups.items self.old.far) (many_told (λ g f. group_told self.old.source g f) groups.new.groups.items self.new.far) }
         ensures waiting { KeepsWaiting groups.old result groups.new }
         ensures source { self.new.source ≡ self.old.source }
     {
@@ -228,7 +241,7 @@ impl<'t, 'w> Transcript<'t, 'w> {
             Ok(more) => more,
             Err(error) => {
                 let end = bytes_read(bytes, groups);
-                return Err(inside(alloc, table, file, bytes, begin, end, error));
+                return Err(inside(alloc, table, bytes, begin, end, told, error));
             }
         };
         match outgoing.send_portion(out) {
@@ -249,13 +262,14 @@ impl<'t, 'w> Transcript<'t, 'w> {
         groups: LogGroups<'_, 'b>,
     ) -> Result<LogEnd<'b>, StreamError>
         ensures told { Puts (course_told file self.old.source groups.entry.groups self.old.far) self.new.far result (sending (W.written out.old) outgoing.old) (sending (W.written out.new) outgoing.new) }
-        ensures byte { TellsByte (OneFile file bytes.now) result }
+        ensures byte { TellsByte bytes.now (Some (many_told (λ g f. group_told self.old.source g f) groups.entry.groups.items self.old.far)) result }
         ensures waiting { IfOk result (λ end. map waiting_value end.waiting.items ≡ groups.entry.waiting) }
         ensures source { self.new.source ≡ self.old.source }
     {
         let mut groups = groups;
+        let mut told: usize = 0;
         loop {
-            match self.send_next(alloc, out, outgoing, table, file, bytes, &mut groups) {
+            match self.send_next(alloc, out, outgoing, table, file, bytes, &mut groups, told) {
                 Ok(more) => {
                     if !more {
                         let read = bytes_read(bytes, &groups);
@@ -263,6 +277,10 @@ impl<'t, 'w> Transcript<'t, 'w> {
                             waiting: groups.into_waiting(),
                             read,
                         });
+                    }
+                    match one_more(told) {
+                        Ok(all) => told = all,
+                        Err(_) => return Err(StreamError::Memory),
                     }
                 }
                 Err(error) => return Err(error),
@@ -282,13 +300,13 @@ impl<'t, 'w> Transcript<'t, 'w> {
         bytes: &'b [u8],
     ) -> Result<LogEnd<'b>, StreamError>
         ensures told { PutsLog (log_told file self.old.source (map waiting_value waiting.entry.items) bytes.now self.old.far) (λ end. map waiting_value end.waiting.items) self.new.far result (sending (W.written out.old) outgoing.old) (sending (W.written out.new) outgoing.new) }
-        ensures byte { TellsByte (OneFile file bytes.now) result }
+        ensures byte { TellsByte bytes.now (told_in file self.old.source (map waiting_value waiting.entry.items) bytes.now self.old.far) result }
         ensures source { self.new.source ≡ self.old.source }
     {
         let reached = copy_of(alloc, &self.reached)?;
         match LogGroups::open(alloc, table, reached, waiting, bytes) {
             Ok(groups) => self.send_groups(alloc, out, outgoing, table, file, bytes, groups),
-            Err(error) => Err(at_begin(alloc, table, file, bytes, of_course(file, error))),
+            Err(error) => Err(at_begin(alloc, table, bytes, of_course(file, error))),
         }
     }
 
@@ -307,8 +325,7 @@ impl<'t, 'w> Transcript<'t, 'w> {
         bytes: &'b [u8],
     ) -> Result<usize, StreamError>
         requires { file < L.many files.now }
-        ensures told { PutsSpan (λ logs. logs_told file self.old.source (map waiting_value waiting.entry.items) (bytes.now ∷ logs) self.old.far) (λ at left logs far. logs_told at self.old.source left logs far) (L.gives files.now) (file + 1) (L.many files.now) self.new.far result (sending (W.written out.old) outgoing.old) (sending (W.written out.new) outgoing.new) }
-        ensures byte { TellsByte (OrFile file bytes.now (L.gives files.now)) result }
+        ensures told { PutsSpan (λ logs. logs_told file self.old.source (map waiting_value waiting.entry.items) (bytes.now ∷ logs) self.old.far) (λ logs fault byte. IsByteOfLogs file self.old.source (map waiting_value waiting.entry.items) (bytes.now ∷ logs) self.old.far fault byte) (λ at left logs far. logs_told at self.old.source left logs far) (λ at left logs far fault byte. IsByteOfLogs at self.old.source left logs far fault byte) (L.gives files.now) (file + 1) (L.many files.now) self.new.far result (sending (W.written out.old) outgoing.old) (sending (W.written out.new) outgoing.new) }
         ensures more { IfOk result (λ next. file < next) }
         ensures within { IfOk result (λ next. next ≤ L.many files.now) }
         ensures source { self.new.source ≡ self.old.source }
@@ -325,7 +342,7 @@ impl<'t, 'w> Transcript<'t, 'w> {
         if next < count {
             return self.send_file(alloc, out, outgoing, table, files, next, end.waiting);
         }
-        match end.settle(alloc, table, file, bytes, next) {
+        match end.settle(alloc, table, bytes, next) {
             Ok(()) => Ok(next),
             Err(error) => Err(error),
         }
@@ -344,8 +361,7 @@ impl<'t, 'w> Transcript<'t, 'w> {
         waiting: Vec<Waiting<'_>>,
     ) -> Result<usize, StreamError>
         requires { file < L.many files.now }
-        ensures told { PutsSpan (λ logs. logs_told file self.old.source (map waiting_value waiting.entry.items) logs self.old.far) (λ at left logs far. logs_told at self.old.source left logs far) (L.gives files.now) file (L.many files.now) self.new.far result (sending (W.written out.old) outgoing.old) (sending (W.written out.new) outgoing.new) }
-        ensures byte { TellsByte (L.gives files.now) result }
+        ensures told { PutsSpan (λ logs. logs_told file self.old.source (map waiting_value waiting.entry.items) logs self.old.far) (λ logs fault byte. IsByteOfLogs file self.old.source (map waiting_value waiting.entry.items) logs self.old.far fault byte) (λ at left logs far. logs_told at self.old.source left logs far) (λ at left logs far fault byte. IsByteOfLogs at self.old.source left logs far fault byte) (L.gives files.now) file (L.many files.now) self.new.far result (sending (W.written out.old) outgoing.old) (sending (W.written out.new) outgoing.new) }
         ensures more { IfOk result (λ next. file < next) }
         ensures within { IfOk result (λ next. next ≤ L.many files.now) }
         ensures source { self.new.source ≡ self.old.source }
@@ -375,8 +391,7 @@ impl<'t, 'w> Transcript<'t, 'w> {
         table: &CrcTable,
         files: &L,
     ) -> Result<(), StreamError>
-        ensures told { PutsFiles (λ logs. logs_told 0 self.old.source [] logs self.old.far) (L.gives files.now) 0 (L.many files.now) self.new.far result (sending (W.written out.old) outgoing.old) (sending (W.written out.new) outgoing.new) }
-        ensures byte { TellsByte (L.gives files.now) result }
+        ensures told { PutsFiles (λ logs. logs_told 0 self.old.source [] logs self.old.far) (λ logs fault byte. IsByteOfLogs 0 self.old.source [] logs self.old.far fault byte) (L.gives files.now) 0 (L.many files.now) self.new.far result (sending (W.written out.old) outgoing.old) (sending (W.written out.new) outgoing.new) }
         ensures source { self.new.source ≡ self.old.source }
     {
         let mut file = 0;
@@ -400,7 +415,7 @@ impl<'t, 'w> Transcript<'t, 'w> {
         file: usize,
     ) -> Result<(), StreamError>
         ensures told { PutsEnd (of_tell file (last_told self.now.source self.now.far)) result (sending (W.written out.old) outgoing.old) (sending (W.written out.new) outgoing.new) }
-        ensures byte { TellsByte NoFile result }
+        ensures byte { TellsNone result }
     {
         match self.put_end(alloc, &mut outgoing.waits, file) {
             Ok(()) => outgoing.send(out),
@@ -459,8 +474,7 @@ fn told_of<L: LogFiles, W: Out>(
     files: &L,
     out: &mut W,
 ) -> Result<usize, StreamError>
-    ensures told { TellsAll (λ logs. feed_told (source_value source.entry) logs) (L.gives files.now) 0 (L.many files.now) result (W.written out.old) (W.written out.new) }
-    ensures byte { TellsByte (L.gives files.now) result }
+    ensures { TellsAll (λ logs. feed_told (source_value source.entry) logs) (λ logs fault byte. IsByteIn (source_value source.entry) logs fault byte) (L.gives files.now) 0 (L.many files.now) result (W.written out.old) (W.written out.new) }
 {
     let table = CrcTable::new(alloc)?;
     let mut transcript = nothing(alloc, source)?;
@@ -488,7 +502,7 @@ pub fn transcribe_to<L: LogFiles, W: Out>(
     out: &mut W,
 ) -> Result<(), StreamError>
     // The groups of the feed are just the transactions of the logs that have rows of its tables.
-    ensures { EndsSo (λ logs. of_logs (feed_of_logs (source_value source.entry) logs)) (λ logs feed. IsSource (source_value source.entry) → IsFeedOfLogs (source_value source.entry) logs feed) (L.gives files.now) (L.many files.now) result (W.written out.old) (W.written out.new) }
+    ensures { EndsSo (λ logs. of_logs (feed_of_logs (source_value source.entry) logs)) (λ logs fault byte. IsByteIn (source_value source.entry) logs fault byte) (λ logs feed. IsSource (source_value source.entry) → IsFeedOfLogs (source_value source.entry) logs feed) (L.gives files.now) (L.many files.now) result (W.written out.old) (W.written out.new) }
 {
     transactions_are_told();
     transactions_reach();

@@ -1,5 +1,5 @@
 -- What the steps of `transcribe` answer, put together.
-use Rattle.std.proofs.Common.{◌≡◌, ℕ, List, [], ◌++◌, option_map, Option, Some, None, Result, Ok, Err, refl, sym, ap, subst, ◌∙◌}
+use Rattle.std.proofs.Common.{◌≡◌, ◌⊎◌, ℕ, List, [], ◌++◌, option_map, Option, Some, None, Result, Ok, Err, refl, sym, ap, subst, ◌∙◌}
 use Rattle.filter_rule.specs.Faults as plans
 use Rattle.filter_rule.specs.declared.fault.PlanFault.{PlanFault}
 use Rattle.filter_rule.specs.declared.fault.PlanFault.TheVariants as plan_fault
@@ -18,7 +18,7 @@ use Rattle.log_transcribe.specs.Transcript.{feed_of_logs}
 use Rattle.printing.specs.Printing.{Written, IsWritten, BreaksOff}
 use Rattle.vrepl_transcribe.specs.Source.{first_unplain, plan_of_shard, source_in}
 use Rattle.vrepl_transcribe.specs.Transcribed as why
-use Rattle.vrepl_transcribe.specs.Transcribed.{AskedValue, WhyNot, unread_workflow, no_stream, unplain_name, unread_feed, unread_logs, of_behind, feed_from, feed_under, feed_asked, asked_of, names_of, IsMade, IsMadeOf, IsNotMade, IsWhy, WritesAll, MakesAll, EndsSo}
+use Rattle.vrepl_transcribe.specs.Transcribed.{AskedValue, WhyNot, unread_workflow, no_stream, unplain_name, unread_feed, unread_logs, of_behind, feed_from, feed_under, feed_asked, asked_of, names_of, IsByteOf, SaysWhy, IsMade, IsMadeOf, IsNotMade, IsWhy, WritesAll, MakesAll, EndsSo}
 use Rattle.vrepl_transcribe.specs.Private.Steps.{AnswersNames, EndsUnder, IsNotUnder, IsWhyOf, PrintsAll, made_from}
 use Rattle.log_transcribe.proofs.SpoolLaws.{spooled}
 use Rattle.vrepl_transcribe.specs.declared.transcribing.TranscribeEnd.{TranscribeEnd}
@@ -50,7 +50,7 @@ module _ (inputs : TranscribeInputs) (plan : PlanValue) (Gives : ℕ → List �
   s = source_in plan (option_map (λ name. name.now) inputs.schema)
 
   abbrev Streams : Result (Unit {0}) StreamError → Written → Written → Type 0
-  Streams result old new = stream.EndsSo (λ logs. made_from s after logs) (λ logs feed. IsSource s → IsMade s after logs feed) Gives many result old new
+  Streams result old new = stream.EndsSo (λ logs. made_from s after logs) (λ logs fault byte. IsByteOf s after logs fault byte) (λ logs feed. IsSource s → IsMade s after logs feed) Gives many result old new
 
   so : (logs : List (List ℕ)) (r : Result (List ℕ) BehindFault) → first_unplain plan.tables ≡ None → made_from s after logs ≡ r → feed_under (asked_of inputs logs) plan ≡ of_behind s r
   so logs r plain is = under_logs (asked_of inputs logs) plan (of_behind s r) plain (from_made s after logs ∙ ap (of_behind s) is)
@@ -95,13 +95,13 @@ module _ (inputs : TranscribeInputs) (plan : PlanValue) (Gives : ℕ → List �
   why_under (stop.Fault fault byte) (Feed other) old new plain w is = absurd is
   why_under (stop.Fault fault byte) (Line line) old new plain w is = (
     unread_logs s fault,
-    record { logs = w.0.logs; gave = w.0.gave; is = λ others both. so (w.0.logs ++ others) (Err (behind_fault.Logs fault)) plain (w.0.is others both) },
-    (byte, is, w.1),
+    record { logs = w.refused.logs; gave = w.refused.gave; is = λ others both. so (w.refused.logs ++ others) (Err (behind_fault.Logs fault)) plain (w.refused.is others both) },
+    (byte, is, w.there),
   )
 
   -- the same of a source that is this one
   abbrev StreamsOf : SourceTables → Result (Unit {0}) StreamError → Written → Written → Type 0
-  StreamsOf x result old new = stream.EndsSo (λ logs. made_from x after logs) (λ logs feed. IsSource x → IsMade x after logs feed) Gives many result old new
+  StreamsOf x result old new = stream.EndsSo (λ logs. made_from x after logs) (λ logs fault byte. IsByteOf x after logs fault byte) (λ logs feed. IsSource x → IsMade x after logs feed) Gives many result old new
 
   pub written_from : (x : SourceTables) (old new : Written) → x ≡ s → first_unplain plan.tables ≡ None → IsSource s → StreamsOf x (Ok tt) old new → EndsUnder inputs plan Gives many (Ok tt) old new
   written_from x old new same plain right w = written_under old new plain right (subst (λ (x : SourceTables). StreamsOf x (Ok tt) old new) same w)
@@ -152,7 +152,7 @@ module _ (inputs : TranscribeInputs) (Gives : ℕ → List ℕ → Type 0) (many
     under_asked (Err (Workflow fault)) old new w = absurd w
     under_asked (Err NoStream) old new w = absurd w
     under_asked (Err (Feed fault)) old new w = not_made (unread_feed fault) w
-    under_asked (Err (Line line)) old new w = (w.0, not_made w.0 w.1, w.2)
+    under_asked (Err (Line line)) old new w = (w.0, record { logs = w.1.logs; gave = w.1.gave; is = λ others both. under_plan (w.1.logs ++ others) all plan read of ∙ w.1.is others both }, w.2)
 
   -- what is written to a writer that keeps it
   pub made_of : (bytes : List ℕ) (old new : Written) → old ≡ record { bytes = Some []; failures = 0 } → new.bytes ≡ Some bytes → WritesAll inputs Gives many (Ok tt) old new → MakesAll inputs Gives many (Ok bytes)
@@ -177,3 +177,7 @@ module _ (inputs : TranscribeInputs) (Gives : ℕ → List ℕ → Type 0) (many
   feed_printed feed end.Unwritten old new err w p = (done_so (BreaksOff old new) feed p w, refl)
   feed_printed feed end.Told old new err w p = absurd p
   feed_printed feed (end.Refused why) old new err w p = absurd p
+
+  -- its line
+  pub line_printed : (line : List ℕ) (ended : TranscribeEnd) (out old new : Written) → (why : WhyNot) × (none : IsNotMade inputs Gives many why) × SaysWhy (asked_of inputs none.logs) why line → ended ≡ end.Told → IsWritten old new line ⊎ BreaksOff old new line → EndsSo inputs Gives many ended out out old new
+  line_printed line ended out old new w told printed = rw told (refl, (w.0, line, w.1, w.2, printed))

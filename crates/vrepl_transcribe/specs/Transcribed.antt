@@ -9,7 +9,7 @@ use Rattle.filter_rule.specs.Reading.{plans_of}
 use Rattle.log_feed.specs.Table as feed
 use Rattle.log_laws.specs.Source.{SourceTables}
 use Rattle.log_laws.specs.declared.fault.TellFault.TheVariants.{Change}
-use Rattle.log_transcribe.specs.Byte.{IsByteOf}
+use Rattle.log_transcribe.specs.Standing.{IsByteIn, IsByteInBehind}
 use Rattle.log_transcribe.specs.Fault.{number_of, file_of}
 use Rattle.log_transcribe.specs.Feed.{IsFeedOfLogs}
 use Rattle.log_transcribe.specs.Files.{GaveFrom}
@@ -42,9 +42,13 @@ pub record AskedValue : Type 0 where
   pub names : List (List ℕ)
   pub logs : List (List ℕ)
 
+-- the names of the program's inputs
+abbrev pub names_of : TranscribeInputs → List (List ℕ)
+names_of inputs = map (λ name. name.now) inputs.names.now
+
 -- those of the program, where the files of the logs gave these bytes
 abbrev pub asked_of : TranscribeInputs → List (List ℕ) → AskedValue
-asked_of inputs logs = record { shard = inputs.shard.now; schema = option_map (λ name. name.now) inputs.schema; after = option_map (λ feed. feed.items) inputs.after; workflow = inputs.workflow.items; names = map (λ name. name.now) inputs.names.now; logs = logs }
+asked_of inputs logs = record { shard = inputs.shard.now; schema = option_map (λ name. name.now) inputs.schema; after = option_map (λ feed. feed.items) inputs.after; workflow = inputs.workflow.items; names = names_of inputs; logs = logs }
 
 -- ---- the feed, as a function
 
@@ -131,16 +135,17 @@ line_of number details = codes "refused " ++ decimal number ++ details ++ 10 ∷
 abbrev pub logs_line : List (List ℕ) → List feed.TableValue → LogsFault → Option ℕ → List ℕ
 logs_line names tables fault byte = line_of (number_of fault) (file_text names (file_of fault) ++ byte_text byte ++ table_text tables fault)
 
--- The line that says why not, where it is of a table's name or of the logs. If it names a byte, the fault stands there in bytes
--- that its file gave.
-abbrev pub SaysWhy : (ℕ → List ℕ → Type 0) → List (List ℕ) → WhyNot → List ℕ → Type 0
-SaysWhy Gives names (unplain_name name) line = line ≡ line_of 148 (codes " table " ++ name)
-SaysWhy Gives names (unread_logs s fault) line = (byte : Option ℕ) × (line ≡ logs_line names s.tables fault byte) × IsByteOf Gives fault byte
-SaysWhy Gives names why line = ⊥
+-- the byte of the first fault of logs, or of what they have behind a feed that is there
+abbrev pub IsByteOf : SourceTables → Option (List ℕ) → List (List ℕ) → LogsFault → Option ℕ → Type 0
+IsByteOf s None logs fault byte = IsByteIn s logs fault byte
+IsByteOf s (Some feed) logs fault byte = IsByteInBehind s feed logs fault byte
 
--- the names of the program's inputs
-abbrev pub names_of : TranscribeInputs → List (List ℕ)
-names_of inputs = map (λ name. name.now) inputs.names.now
+-- The line that says why not, where it is of a table's name or of the logs. If it names a byte, the first fault of these logs
+-- stands there.
+abbrev pub SaysWhy : AskedValue → WhyNot → List ℕ → Type 0
+SaysWhy a (unplain_name name) line = line ≡ line_of 148 (codes " table " ++ name)
+SaysWhy a (unread_logs s fault) line = (byte : Option ℕ) × (line ≡ logs_line a.names s.tables fault byte) × IsByteOf s a.after a.logs fault byte
+SaysWhy a why line = ⊥
 
 -- ---- what is answered, of files that are read one at a time
 
@@ -168,7 +173,7 @@ IsWhy inputs Gives many (unmade.Unread file) = IsUnreadAt Gives many file
 IsWhy inputs Gives many (unmade.Workflow fault) = IfSome (plans.definition_fault_of fault) (λ f. IsNotMade inputs Gives many (unread_workflow f))
 IsWhy inputs Gives many unmade.NoStream = IsNotMade inputs Gives many no_stream
 IsWhy inputs Gives many (unmade.Feed fault) = IsNotMade inputs Gives many (unread_feed fault)
-IsWhy inputs Gives many (unmade.Line line) = (why : WhyNot) × IsNotMade inputs Gives many why × SaysWhy Gives (names_of inputs) why line.items
+IsWhy inputs Gives many (unmade.Line line) = (why : WhyNot) × (none : IsNotMade inputs Gives many why) × SaysWhy (asked_of inputs none.logs) why line.items
 
 -- the feed was written; or a write failed; or there is none
 abbrev pub WritesAll : TranscribeInputs → (ℕ → List ℕ → Type 0) → ℕ → Result (Unit {0}) Untranscribed → Written → Written → Type 0
@@ -185,7 +190,7 @@ MakesAll inputs Gives many (Err why) = IsWhy inputs Gives many why
 
 -- the line was printed whole, or a beginning of it and then a write failed
 abbrev pub PrintsLine : TranscribeInputs → (ℕ → List ℕ → Type 0) → ℕ → Written → Written → Type 0
-PrintsLine inputs Gives many old new = (why : WhyNot) × (line : List ℕ) × IsNotMade inputs Gives many why × SaysWhy Gives (names_of inputs) why line × (IsWritten old new line ⊎ BreaksOff old new line)
+PrintsLine inputs Gives many old new = (why : WhyNot) × (line : List ℕ) × (none : IsNotMade inputs Gives many why) × SaysWhy (asked_of inputs none.logs) why line × (IsWritten old new line ⊎ BreaksOff old new line)
 
 -- how it ends: the feed was printed whole; or a beginning of it, and then a write failed; or nothing was, since a line says
 -- why not; or since there is another reason, which isn't told yet

@@ -10,7 +10,7 @@ ghost use Rattle.printing.specs.Printing.{IsWritten, BreaksOff};
 ghost use Rattle.vrepl_transcribe.specs.Source.{plan_of_shard};
 ghost use Rattle.log_feed.specs.Table.{table_value};
 ghost use Rattle.log_transcribe.specs.Streamed.{EndsSo as StreamEnds};
-ghost use Rattle.vrepl_transcribe.specs.Transcribed.{EndsSo, IsMade, MakesAll, WritesAll};
+ghost use Rattle.vrepl_transcribe.specs.Transcribed.{EndsSo, IsByteOf, IsMade, MakesAll, WritesAll};
 ghost use Rattle.vrepl_transcribe.specs.Private.Steps.{AnswersNames, EndsUnder, IsLineOf, IsWhyOf, PrintsAll, made_from};
 ghost use Rattle.vrepl_transcribe.specs.declared.transcribing.TranscribeEnd.TheVariants.{Told};
 
@@ -136,7 +136,7 @@ fn write_from<L: LogFiles, W: Out>(
     files: &L,
     out: &mut W,
 ) -> Result<(), StreamError>
-    ensures { StreamEnds (λ logs. made_from (source_value source.entry) (option_map (λ feed. feed.items) after) logs) (λ logs feed. IsSource (source_value source.entry) → IsMade (source_value source.entry) (option_map (λ feed. feed.items) after) logs feed) (L.gives files.now) (L.many files.now) result (W.written out.old) (W.written out.new) }
+    ensures { StreamEnds (λ logs. made_from (source_value source.entry) (option_map (λ feed. feed.items) after) logs) (λ logs fault byte. IsByteOf (source_value source.entry) (option_map (λ feed. feed.items) after) logs fault byte) (λ logs feed. IsSource (source_value source.entry) → IsMade (source_value source.entry) (option_map (λ feed. feed.items) after) logs feed) (L.gives files.now) (L.many files.now) result (W.written out.old) (W.written out.new) }
 {
     match after {
         Some(feed) => transcribe_behind_to(alloc, source, feed, files, out),

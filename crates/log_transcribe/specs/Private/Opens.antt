@@ -1,5 +1,5 @@
 -- Files behind a feed, of which the first is read before it is gone through.
-use Rattle.std.specs.Prelude.{◌≡◌, ◌⊎◌, ℕ, ◌≤◌, ◌<◌, List, [], ◌∷◌, Option, None, Some, Result, Ok, Err}
+use Rattle.std.specs.Prelude.{◌≡◌, ℕ, ◌≤◌, ◌<◌, List, [], ◌∷◌, Option, None, Some, Result, Ok, Err}
 use Rattle.gtid_set.specs.declared.interval.Interval.{Interval}
 use Rattle.gtid_set.specs.Position.{IsCanonical}
 use Rattle.source_feed.specs.declared.fault.FeedFault.{FeedFault}
@@ -14,7 +14,8 @@ use Rattle.log_transcribe.specs.Behind.{begun, unsaid, along_of, behind_of_logs}
 use Rattle.log_transcribe.specs.Files.{log_bytes}
 use Rattle.log_transcribe.specs.Said.{feed_end, feed_said}
 use Rattle.log_transcribe.specs.Private.Goes.{SequelValue}
-use Rattle.log_transcribe.specs.Private.Sends.{OneFile}
+use Rattle.log_transcribe.specs.Standing.{IsByteInBehind}
+use Rattle.log_transcribe.specs.Private.Sends.{StopsAt, StopsNowhere}
 
 -- the first log, if there is one, and others behind it; without a first one there are no others
 abbrev pub logs_from : Option LogBytes → List (List ℕ) → List (List ℕ)
@@ -42,13 +43,10 @@ IsFirst Gives many (Err stop.Memory) = Unit {0}
 IsFirst Gives many (Err (stop.Unread at)) = (at ≡ 0) × (0 < many)
 IsFirst Gives many (Err error) = ⊥
 
--- the bytes of the first log, if there is one; and those of others
-abbrev pub OfFirst : Option LogBytes → ℕ → List ℕ → Type 0
-OfFirst None file bytes = ⊥
-OfFirst (Some log) file bytes = OneFile 0 (log_bytes log) file bytes
-
-abbrev pub OrFirst : Option LogBytes → (ℕ → List ℕ → Type 0) → ℕ → List ℕ → Type 0
-OrFirst log Gives file bytes = OfFirst log file bytes ⊎ Gives file bytes
+-- the byte of what is wrong where the first log begins, if there is one
+abbrev pub StopsFirst : Option LogBytes → StreamError → Type 0
+StopsFirst None error = StopsNowhere error
+StopsFirst (Some log) error = StopsAt (log_bytes log) None error
 
 -- what is wrong with the feed
 abbrev pub stop_of : FeedFault → StreamError
@@ -72,5 +70,5 @@ abbrev pub OpensBehind : SourceTables → List ℕ → Option LogBytes → Resul
 OpensBehind s feed log (Ok q) = IsOpened s feed log q
 OpensBehind s feed log (Err stop.Memory) = Unit {0}
 OpensBehind s feed log (Err (stop.Feed fault)) = (others : List (List ℕ)) → behind_of_logs s feed (logs_from log others) ≡ Err (Feed fault)
-OpensBehind s feed log (Err (stop.Fault fault byte)) = (others : List (List ℕ)) → behind_of_logs s feed (logs_from log others) ≡ Err (Logs fault)
+OpensBehind s feed log (Err (stop.Fault fault byte)) = ((others : List (List ℕ)) → behind_of_logs s feed (logs_from log others) ≡ Err (Logs fault)) × IsByteInBehind s feed (logs_from log []) fault byte
 OpensBehind s feed log (Err error) = ⊥

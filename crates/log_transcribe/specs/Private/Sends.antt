@@ -1,5 +1,5 @@
 -- Messages on their way to a writer, file by file.
-use Rattle.std.specs.Prelude.{◌≡◌, ◌⊎◌, ◌<◌, ◌≤◌, ℕ, ◌+◌, ◌-◌, ◌^◌, min, Bool, true, false, List, [], ◌++◌, length, Option, Result, Ok, Err}
+use Rattle.std.specs.Prelude.{◌≡◌, ◌⊎◌, ◌<◌, ◌≤◌, ℕ, ◌+◌, ◌-◌, ◌^◌, min, Bool, true, false, List, [], ◌++◌, length, Option, None, Some, Result, Ok, Err}
 use Rattle.printing.specs.Printing.{Written, IsWritten, BreaksOff}
 use Rattle.vevent.specs.EventValue.{EventValue}
 use Rattle.log_groups.specs.Group.{WaitingValue, still_waits}
@@ -12,7 +12,7 @@ use Rattle.log_transcribe.specs.declared.fault.BehindFault.TheVariants.{Feed, Lo
 use Rattle.log_transcribe.specs.declared.fault.BehindError.{BehindError}
 use Rattle.log_transcribe.specs.declared.fault.BehindError.TheVariants as behind_error
 use Rattle.log_transcribe.specs.declared.outgoing.Outgoing.{Outgoing}
-use Rattle.log_transcribe.specs.Byte.{IsByteOf}
+use Rattle.log_transcribe.specs.Byte.{StandsAt}
 use Rattle.log_transcribe.specs.Files.{GaveFrom}
 use Rattle.log_transcribe.specs.Private.Bytes.{with_messages, with_waiting, last_with, bytes_told}
 
@@ -80,25 +80,38 @@ IsOfLogs (logs_error.Fault fault) stop.Memory = Unit {0}
 IsOfLogs (logs_error.Fault fault) (stop.Fault other byte) = other ≡ fault
 IsOfLogs (logs_error.Fault fault) error = ⊥
 
--- where an error tells a byte, its fault stands there in bytes that its file gave
-abbrev pub StopsAt : (ℕ → List ℕ → Type 0) → StreamError → Type 0
-StopsAt Gives (stop.Fault fault byte) = IsByteOf Gives fault byte
-StopsAt Gives error = Unit {0}
+-- where a byte is told of a file's bytes, the fault stands there, behind so many of its transactions that are told
+abbrev pub IsByteAt : List ℕ → Option ℕ → LogsFault → Option ℕ → Type 0
+IsByteAt bytes told fault None = Unit {0}
+IsByteAt bytes told fault (Some byte) = StandsAt bytes told fault byte
 
-abbrev pub TellsByte : {X : Type 0} → (ℕ → List ℕ → Type 0) → Result X StreamError → Type 0
-TellsByte Gives (Ok x) = Unit {0}
-TellsByte Gives (Err error) = StopsAt Gives error
+abbrev pub StopsAt : List ℕ → Option ℕ → StreamError → Type 0
+StopsAt bytes told (stop.Fault fault byte) = IsByteAt bytes told fault byte
+StopsAt bytes told error = Unit {0}
 
--- no file gave any
-abbrev pub NoFile : ℕ → List ℕ → Type 0
-NoFile file bytes = ⊥
+abbrev pub TellsByte : {X : Type 0} → List ℕ → Option ℕ → Result X StreamError → Type 0
+TellsByte bytes told (Ok x) = Unit {0}
+TellsByte bytes told (Err error) = StopsAt bytes told error
 
--- this file gave these bytes; and others may have given others
-abbrev pub OneFile : ℕ → List ℕ → ℕ → List ℕ → Type 0
-OneFile file bytes at log = (at ≡ file) × (log ≡ bytes)
+-- a fault of no file has none
+abbrev pub StopsNowhere : StreamError → Type 0
+StopsNowhere (stop.Fault fault byte) = byte ≡ None
+StopsNowhere error = Unit {0}
 
-abbrev pub OrFile : ℕ → List ℕ → (ℕ → List ℕ → Type 0) → ℕ → List ℕ → Type 0
-OrFile file bytes Gives at log = OneFile file bytes at log ⊎ Gives at log
+abbrev pub TellsNone : {X : Type 0} → Result X StreamError → Type 0
+TellsNone (Ok x) = Unit {0}
+TellsNone (Err error) = StopsNowhere error
+
+-- one transaction more is told, or the next one isn't
+abbrev pub CountsOne : Result Bool LogsError → ℕ → ℕ → Type 0
+CountsOne (Ok true) old new = old ≡ new + 1
+CountsOne (Ok false) old new = Unit {0}
+CountsOne (Err logs_error.Memory) old new = Unit {0}
+CountsOne (Err (logs_error.Fault fault)) old new = old ≡ 0
+
+abbrev pub CountsSent : Result Bool StreamError → ℕ → ℕ → Type 0
+CountsSent (Ok true) old new = old ≡ new + 1
+CountsSent answer old new = Unit {0}
 
 -- a fault of the logs; any other error is want of memory there
 abbrev pub logs_error_of : StreamError → LogsError
@@ -129,6 +142,13 @@ Stills all (Err error) = ⊥
 abbrev pub Telling : Type 0 → Type 0
 Telling A = ℕ → List WaitingValue → List (List ℕ) → A → Result (Going A) LogsFault
 
+-- whether a fault of files stands at a byte, if one is told; of those from one on too
+abbrev pub Places : Type 1
+Places = List (List ℕ) → LogsFault → Option ℕ → Type 0
+
+abbrev pub Placing : Type 0 → Type 1
+Placing A = ℕ → List WaitingValue → List (List ℕ) → A → LogsFault → Option ℕ → Type 0
+
 -- The files from one on gave bytes, and all is told that these tell.
 pub record AreTold {A : Type 0} (tells : List (List ℕ) → Result (Going A) LogsFault) (Gives : ℕ → List ℕ → Type 0) (file many : ℕ) (next : A) (old new : Sending) : Type 0 where
   pub logs : List (List ℕ)
@@ -136,12 +156,14 @@ pub record AreTold {A : Type 0} (tells : List (List ℕ) → Result (Going A) Lo
   pub all : file + length logs ≡ many
   pub goes : GoesOn (tells logs) (done next) old new
 
--- By what the files from one on gave there is a fault, whatever the others have.
-pub record AreRefused {X : Type 0} (tells : List (List ℕ) → Result X LogsFault) (Gives : ℕ → List ℕ → Type 0) (file many : ℕ) (fault : LogsFault) : Type 0 where
+-- By what the files from one on gave there is a fault, whatever the others have; and where it stands in these bytes, if a byte
+-- is told.
+pub record AreRefused {X : Type 0} (tells : List (List ℕ) → Result X LogsFault) (IsByte : Places) (Gives : ℕ → List ℕ → Type 0) (file many : ℕ) (fault : LogsFault) (byte : Option ℕ) : Type 0 where
   pub logs : List (List ℕ)
   pub gave : GaveFrom Gives file logs
   pub within : file + length logs ≤ many
   pub is : (others : List (List ℕ)) → file + (length logs + length others) ≡ many → tells (logs ++ others) ≡ Err fault
+  pub there : IsByte logs fault byte
 
 -- The files from one on gave bytes up to this one of so many.
 pub record AreUnread (Gives : ℕ → List ℕ → Type 0) (file many at : ℕ) : Type 0 where
@@ -150,37 +172,38 @@ pub record AreUnread (Gives : ℕ → List ℕ → Type 0) (file many at : ℕ) 
   pub gave : GaveFrom Gives file logs
   pub before : file + length logs ≡ at
 
-abbrev pub PutsFiles : {A : Type 0} → (List (List ℕ) → Result (Going A) LogsFault) → (ℕ → List ℕ → Type 0) → ℕ → ℕ → A → Result (Unit {0}) StreamError → Sending → Sending → Type 0
-PutsFiles tells Gives file many next (Ok x) old new = AreTold tells Gives file many next old new
-PutsFiles tells Gives file many next (Err (stop.Unread at)) old new = AreUnread Gives file many at
-PutsFiles tells Gives file many next (Err (stop.Fault fault byte)) old new = AreRefused tells Gives file many fault
-PutsFiles tells Gives file many next (Err error) old new = Stops nothing error old.written new.written
+abbrev pub PutsFiles : {A : Type 0} → (List (List ℕ) → Result (Going A) LogsFault) → Places → (ℕ → List ℕ → Type 0) → ℕ → ℕ → A → Result (Unit {0}) StreamError → Sending → Sending → Type 0
+PutsFiles tells IsByte Gives file many next (Ok x) old new = AreTold tells Gives file many next old new
+PutsFiles tells IsByte Gives file many next (Err (stop.Unread at)) old new = AreUnread Gives file many at
+PutsFiles tells IsByte Gives file many next (Err (stop.Fault fault byte)) old new = AreRefused tells IsByte Gives file many fault byte
+PutsFiles tells IsByte Gives file many next (Err error) old new = Stops nothing error old.written new.written
 
 -- The files from one on gave bytes up to another one, and all is told that they tell: the others are told behind that, where
--- these wait.
-pub record GoesTo {A : Type 0} (all : List (List ℕ) → Result (Going A) LogsFault) (tells : Telling A) (Gives : ℕ → List ℕ → Type 0) (file to : ℕ) (left : List WaitingValue) (next : A) (old new : Sending) : Type 0 where
+-- these wait, and a fault of theirs stands where it does there.
+pub record GoesTo {A : Type 0} (all : List (List ℕ) → Result (Going A) LogsFault) (IsByte : Places) (tells : Telling A) (IsBytes : Placing A) (Gives : ℕ → List ℕ → Type 0) (file to : ℕ) (left : List WaitingValue) (next : A) (old new : Sending) : Type 0 where
   pub logs : List (List ℕ)
   pub gave : GaveFrom Gives file logs
   pub to_there : file + length logs ≡ to
   pub gone : List ℕ
   pub went : WentOut old new gone
   pub goes : (others : List (List ℕ)) → with_messages (all (logs ++ others)) old.waits ≡ with_messages (tells to left others next) (gone ++ new.waits)
+  pub there : (others : List (List ℕ)) (fault : LogsFault) (byte : Option ℕ) → IsBytes to left others next fault byte → IsByte (logs ++ others) fault byte
 
 -- of so many files: nothing waits before another one, and behind the last one nothing that changes anything
 pub record IsSettled (many to : ℕ) (left : List WaitingValue) : Type 0 where
   pub before : to < many → left ≡ []
   pub changes : still_waits left ≡ false
 
-pub record GoesOver {A : Type 0} (all : List (List ℕ) → Result (Going A) LogsFault) (tells : Telling A) (Gives : ℕ → List ℕ → Type 0) (file many to : ℕ) (next : A) (old new : Sending) : Type 0 where
+pub record GoesOver {A : Type 0} (all : List (List ℕ) → Result (Going A) LogsFault) (IsByte : Places) (tells : Telling A) (IsBytes : Placing A) (Gives : ℕ → List ℕ → Type 0) (file many to : ℕ) (next : A) (old new : Sending) : Type 0 where
   pub left : List WaitingValue
-  pub goes : GoesTo all tells Gives file to left next old new
+  pub goes : GoesTo all IsByte tells IsBytes Gives file to left next old new
   pub settled : IsSettled many to left
 
-abbrev pub PutsSpan : {A : Type 0} → (List (List ℕ) → Result (Going A) LogsFault) → Telling A → (ℕ → List ℕ → Type 0) → ℕ → ℕ → A → Result ℕ StreamError → Sending → Sending → Type 0
-PutsSpan all tells Gives file many next (Ok to) old new = GoesOver all tells Gives file many to next old new
-PutsSpan all tells Gives file many next (Err (stop.Unread at)) old new = AreUnread Gives file many at
-PutsSpan all tells Gives file many next (Err (stop.Fault fault byte)) old new = AreRefused all Gives file many fault
-PutsSpan all tells Gives file many next (Err error) old new = Stops nothing error old.written new.written
+abbrev pub PutsSpan : {A : Type 0} → (List (List ℕ) → Result (Going A) LogsFault) → Places → Telling A → Placing A → (ℕ → List ℕ → Type 0) → ℕ → ℕ → A → Result ℕ StreamError → Sending → Sending → Type 0
+PutsSpan all IsByte tells IsBytes Gives file many next (Ok to) old new = GoesOver all IsByte tells IsBytes Gives file many to next old new
+PutsSpan all IsByte tells IsBytes Gives file many next (Err (stop.Unread at)) old new = AreUnread Gives file many at
+PutsSpan all IsByte tells IsBytes Gives file many next (Err (stop.Fault fault byte)) old new = AreRefused all IsByte Gives file many fault byte
+PutsSpan all IsByte tells IsBytes Gives file many next (Err error) old new = Stops nothing error old.written new.written
 
 -- ---- the end
 
@@ -201,8 +224,8 @@ pub record AreWritten (tells : List (List ℕ) → Result (List (List EventValue
   pub written : IsWritten old new feed
   pub many_bytes : size ≡ counted (length feed)
 
-abbrev pub TellsAll : (List (List ℕ) → Result (List (List EventValue)) LogsFault) → (ℕ → List ℕ → Type 0) → ℕ → ℕ → Result ℕ StreamError → Written → Written → Type 0
-TellsAll tells Gives file many (Ok size) old new = AreWritten tells Gives file many size old new
-TellsAll tells Gives file many (Err (stop.Unread at)) old new = AreUnread Gives file many at
-TellsAll tells Gives file many (Err (stop.Fault fault byte)) old new = AreRefused tells Gives file many fault
-TellsAll tells Gives file many (Err error) old new = Stops nothing error old new
+abbrev pub TellsAll : (List (List ℕ) → Result (List (List EventValue)) LogsFault) → Places → (ℕ → List ℕ → Type 0) → ℕ → ℕ → Result ℕ StreamError → Written → Written → Type 0
+TellsAll tells IsByte Gives file many (Ok size) old new = AreWritten tells Gives file many size old new
+TellsAll tells IsByte Gives file many (Err (stop.Unread at)) old new = AreUnread Gives file many at
+TellsAll tells IsByte Gives file many (Err (stop.Fault fault byte)) old new = AreRefused tells IsByte Gives file many fault byte
+TellsAll tells IsByte Gives file many (Err error) old new = Stops nothing error old new

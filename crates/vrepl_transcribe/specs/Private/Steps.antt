@@ -15,7 +15,7 @@ use Rattle.log_transcribe.specs.Streamed.{IsUnreadAt}
 use Rattle.log_transcribe.specs.Transcript.{feed_of_logs}
 use Rattle.printing.specs.Printing.{Written, IsWritten, BreaksOff}
 use Rattle.vrepl_transcribe.specs.Source.{first_unplain, source_in}
-use Rattle.vrepl_transcribe.specs.Transcribed.{WhyNot, unread_feed, SaysWhy, IsMade, asked_of, names_of, feed_under, line_of, logs_line}
+use Rattle.vrepl_transcribe.specs.Transcribed.{WhyNot, unread_feed, SaysWhy, IsMade, asked_of, feed_under, line_of, logs_line}
 use Rattle.vrepl_transcribe.specs.declared.inputs.TranscribeInputs.{TranscribeInputs}
 use Rattle.vrepl_transcribe.specs.declared.transcribing.Untranscribed.{Untranscribed}
 use Rattle.vrepl_transcribe.specs.declared.transcribing.Untranscribed.TheVariants.{Memory, Unwritten, Unread, Feed, Line}
@@ -80,7 +80,7 @@ EndsUnder inputs plan Gives many (Err Memory) old new = Unit {0}
 EndsUnder inputs plan Gives many (Err Unwritten) old new = (text : List ℕ) × BreaksOff old new text
 EndsUnder inputs plan Gives many (Err (Unread file)) old new = IsUnreadAt Gives many file
 EndsUnder inputs plan Gives many (Err (Feed fault)) old new = IsNotUnder inputs plan Gives many (unread_feed fault)
-EndsUnder inputs plan Gives many (Err (Line line)) old new = (why : WhyNot) × IsNotUnder inputs plan Gives many why × SaysWhy Gives (names_of inputs) why line.items
+EndsUnder inputs plan Gives many (Err (Line line)) old new = (why : WhyNot) × (none : IsNotUnder inputs plan Gives many why) × SaysWhy (asked_of inputs none.logs) why line.items
 EndsUnder inputs plan Gives many (Err why) old new = ⊥
 
 -- the bytes were printed whole, or a beginning of them

@@ -3,6 +3,7 @@ use Rattle.std.proofs.lemmas.List.{length-map}
 use Rattle.log_laws.specs.Source.{IsSource}
 use Rattle.log_transcribe.specs.Behind.{behind_of_logs}
 use Rattle.log_transcribe.specs.Further.{IsFeedBehind}
+use Rattle.log_transcribe.specs.Standing.{IsByteInBehind}
 use Rattle.log_transcribe.specs.Streamed.{EndsSo}
 use Rattle.log_transcribe.specs.Transcript.{source_value}
 use Rattle.log_transcribe.proofs.SpoolLaws.{ItemsOf, behind_ended, feed_is_kept}
@@ -27,7 +28,7 @@ returns-in-Ok-clause-right c =
 pub returns-in-Err-clause-exact : goal.returns-in-Err-clause-exact
 returns-in-Err-clause-exact c =
     rw c.of_stream.ensures
-    (behind_ended (λ logs. behind_of_logs (source_value c.args.source) c.args.feed.now logs) (λ logs more. IsSource (source_value c.args.source) → IsFeedBehind (source_value c.args.source) c.args.feed.now logs more) (bytes_of c.args.logs.now) (length c.args.logs.now) c.in-Err.error
+    (behind_ended (λ logs. behind_of_logs (source_value c.args.source) c.args.feed.now logs) (λ logs fault byte. IsByteInBehind (source_value c.args.source) c.args.feed.now logs fault byte) (λ logs more. IsSource (source_value c.args.source) → IsFeedBehind (source_value c.args.source) c.args.feed.now logs more) (bytes_of c.args.logs.now) (length c.args.logs.now) c.in-Err.error
     c.new-spool.result c.transcribe_behind_to.new.out (many_of c.args.logs.now)
-    (subst (λ (feed : List ℕ). EndsSo (λ logs. behind_of_logs (source_value c.args.source) feed logs) (λ logs more. IsSource (source_value c.args.source) → IsFeedBehind (source_value c.args.source) feed logs more) (ItemsOf (bytes_of c.args.logs.now)) (length c.args.logs.now) (Err c.in-Err.error) c.new-spool.result c.transcribe_behind_to.new.out)
+    (subst (λ (feed : List ℕ). EndsSo (λ logs. behind_of_logs (source_value c.args.source) feed logs) (λ logs fault byte. IsByteInBehind (source_value c.args.source) feed logs fault byte) (λ logs more. IsSource (source_value c.args.source) → IsFeedBehind (source_value c.args.source) feed logs more) (ItemsOf (bytes_of c.args.logs.now)) (length c.args.logs.now) (Err c.in-Err.error) c.new-spool.result c.transcribe_behind_to.new.out)
     c.in_ok-feed.ensures c.in-Err.ensures))

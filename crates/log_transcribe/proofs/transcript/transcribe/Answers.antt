@@ -3,6 +3,7 @@ use Rattle.std.proofs.lemmas.List.{length-map}
 use Rattle.log_laws.specs.Source.{IsSource}
 use Rattle.log_transcribe.specs.Fault.{of_logs}
 use Rattle.log_transcribe.specs.Feed.{IsFeedOfLogs}
+use Rattle.log_transcribe.specs.Standing.{IsByteIn}
 use Rattle.log_transcribe.specs.Transcript.{source_value, feed_of_logs}
 use Rattle.log_transcribe.proofs.SpoolLaws.{feed_is_kept, logs_ended, logs_given}
 use Rattle.log_transcribe.proofs.transcript.transcribe.Goals as goal
@@ -27,5 +28,5 @@ returns-in-Ok-clause-right c =
 pub returns-in-Err-clause-exact : goal.returns-in-Err-clause-exact
 returns-in-Err-clause-exact c =
     rw c.of_stream.ensures
-    (logs_ended (source_value c.args.source) (λ logs feed. IsSource (source_value c.args.source) → IsFeedOfLogs (source_value c.args.source) logs feed) (bytes_of c.args.logs.now) (length c.args.logs.now) c.in-Err.error
+    (logs_ended (source_value c.args.source) (λ logs fault byte. IsByteIn (source_value c.args.source) logs fault byte) (λ logs feed. IsSource (source_value c.args.source) → IsFeedOfLogs (source_value c.args.source) logs feed) (bytes_of c.args.logs.now) (length c.args.logs.now) c.in-Err.error
     c.new-spool.result c.transcribe_to.new.out (many_of c.args.logs.now) c.in-Err.ensures)

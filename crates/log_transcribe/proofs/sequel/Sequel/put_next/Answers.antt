@@ -1,5 +1,6 @@
 use Rattle.std.proofs.Common.{Ok, Err}
 use Rattle.log_course.specs.Calls.{placed_value}
+use Rattle.log_transcribe.proofs.CountLaws.{fault_counts_behind, next_counts_behind}
 use Rattle.log_transcribe.proofs.GoingLaws.{next-went, none-went, fault-went}
 use Rattle.log_transcribe.proofs.sequel.Sequel.put_next.Goals as goal
 
@@ -19,3 +20,17 @@ returns-in-Ok-None-clause-told c = none-went c.args.file c.args.self.now.source 
 pub returns-in-Err-clause-told : goal.returns-in-Err-clause-told
 returns-in-Err-clause-told c =
     rw c.of_course.ensures (fault-went c.args.file c.args.self.now.source c.args.self.now.had c.args.groups.now c.next_group.new.self c.in-Err.error c.args.self.now.along c.args.out.now.items c.in-Err.ensures)
+
+pub returns-in-Ok-clause-counts : goal.returns-in-Ok-clause-counts
+returns-in-Ok-clause-counts c =
+    next_counts_behind c.args.file c.args.self.now.source c.args.self.now.had c.args.groups.now c.next_group.new.self (placed_value c.in-Ok-Some.group) (Ok c.in-Ok.field-0) c.args.self.now.along c.put_group.new.self.along c.args.out.now.items c.put_group.new.out.items
+    (rw c.in-Ok-Some.field-0-is at c.in-Ok-Some.ensures) c.in-Ok.ensures.told
+
+pub returns-in-Err-put_group-clause-counts : goal.returns-in-Err-put_group-clause-counts
+returns-in-Err-put_group-clause-counts c =
+    next_counts_behind c.args.file c.args.self.now.source c.args.self.now.had {U = Unit {0}} c.args.groups.now c.next_group.new.self (placed_value c.in-Ok-Some.group) (Err c.in-Err-put_group.error) c.args.self.now.along c.put_group.new.self.along c.args.out.now.items c.put_group.new.out.items
+    (rw c.in-Ok-Some.field-0-is at c.in-Ok-Some.ensures) c.in-Err-put_group.ensures.told
+
+pub returns-in-Err-clause-counts : goal.returns-in-Err-clause-counts
+returns-in-Err-clause-counts c =
+    rw c.of_course.ensures (fault_counts_behind c.args.file c.args.self.now.source c.args.self.now.had c.args.groups.now c.next_group.new.self c.in-Err.error c.args.self.now.along _ c.in-Err.ensures)

@@ -4,6 +4,7 @@ use Rattle.log_transcribe.specs.Private.Goes.{reading_behind}
 use Rattle.log_laws.specs.Source.{SourceTables}
 use Rattle.log_transcribe.specs.declared.fault.StreamError.{StreamError}
 use Rattle.log_transcribe.specs.Private.Sends.{PutsOne, sending}
+use Rattle.log_transcribe.proofs.ByteLaws.{counts_on, stops_told}
 use Rattle.log_transcribe.proofs.StreamLaws.{end_waiting, kept_waiting, loop_done, loop_on, stops_all}
 use Rattle.log_transcribe.proofs.sequel.Sequel.send_groups.Goals as goal
 
@@ -25,6 +26,7 @@ loop-more-preserved g c = (
   c.in-Ok.ensures.source ∙ c.loop-more.invariant.1,
   c.in-Ok.ensures.had ∙ c.loop-more.invariant.2,
   kept_waiting StreamError c.loop-more.groups c.send_next.new.groups c.in-Ok.more c.in-Ok.ensures.waiting ∙ c.loop-more.invariant.3,
+  counts_on c.in-Ok.more c.loop-more.told c.in-Ok-one_more.all _ _ _ c.if-not-more.false (rw (c.loop-more.invariant.1, c.loop-more.invariant.2) at c.in-Ok.ensures.counts) c.loop-more.invariant.4 c.in-Ok-one_more.ensures,
 )
 
 pub returns-in-Err-clause-told : goal.returns-in-Err-clause-told
@@ -37,3 +39,6 @@ pub returns-then-not-more-clause-waiting : goal.returns-then-not-more-clause-wai
 returns-then-not-more-clause-waiting g c =
     let none = end_waiting StreamError c.loop-more.groups c.send_next.new.groups c.in-Ok.more c.if-not-more.true c.in-Ok.ensures.waiting in
     c.into_waiting.ensures none.0 none.1 ∙ kept_waiting StreamError c.loop-more.groups c.send_next.new.groups c.in-Ok.more c.in-Ok.ensures.waiting ∙ c.loop-more.invariant.3
+
+pub returns-in-Err-clause-byte : goal.returns-in-Err-clause-byte
+returns-in-Err-clause-byte g c = stops_told c.args.bytes.now _ _ c.in-Err.error c.loop-more.invariant.4 (rw (c.loop-more.invariant.1, c.loop-more.invariant.2) at c.in-Err.ensures.byte)
