@@ -1,13 +1,14 @@
 -- What a builder's step makes of a command, or of an argument.
-use Rattle.std.proofs.Common.{◌≡◌, ◌∙◌, ap, ap₂, ◌||◌, Option}
-use Rattle.clap.specs.Words.{AddsArg, AddsSubcommand, App, Rule, app_of, rule_of, with_rule, with_subcommand}
+use Rattle.std.proofs.Common.{◌≡◌, ◌∙◌, ap, ap₂, ◌||◌, [], ◌∷◌, List, Option, Result}
+use Rattle.std.specs.Prelude.{IfOk}
+use Rattle.clap.specs.Words.{AddsArg, AddsSubcommand, App, Rule, Shape, app_of, rule_of, with_rule, with_subcommand}
 use Rattle.clap.specs.Simple.{app_of_fields}
 use Rattle.clap.specs.declared.builder.arg.Arg.{Arg}
 use Rattle.clap.specs.declared.builder.range.ValueRange.{ValueRange}
 use Rattle.clap.specs.declared.builder.command.Command.{Command}
 use Rattle.clap.specs.declared.builder.command.Command.TheOpen.{Command-F}
 use Rattle.clap.specs.declared.builder.command.Command.TheViews.{out-Command}
-use Rattle.vrepl_words.specs.Built.{HasApp, HasRule}
+use Rattle.vrepl_words.specs.Built.{HasApp, HasOneMore, HasRule, HasSubcommands, app_with, bare_app}
 
 -- a setting, which changes a field
 pub sets : (f : App → App) (app : App) (old new : Command) (fields : Command-F Command) → out-Command new ≡ fields
@@ -32,3 +33,10 @@ ranged old made range is = ap rule_of is
 
 pub ranged_alone : (old made : Arg) (range : Option ValueRange) → made ≡ record old { num_vals = range } → made.global ≡ old.global
 ranged_alone old made range is = ap (λ (a : Arg). a.global) is
+
+-- the program's command without its subcommands, and with one more
+pub has_none : {E : Type 0} (command : Result Command E) → IfOk command (HasApp bare_app) → HasSubcommands [] command
+has_none command is = record { has = is }
+
+pub has_one_more : {E : Type 0} (command sub made : Result Command E) (before : List Shape) (shape : Shape) → HasOneMore command sub made → HasSubcommands before command → IfOk sub (HasApp (record { top = shape; subs = [] })) → HasSubcommands (shape ∷ before) made
+has_one_more command sub made before shape more has is = record { has = more.has (app_with before) (record { top = shape; subs = [] }) has.has is }

@@ -7,7 +7,7 @@ use Rattle.clap.proofs.SimpleLemmas.{is_nil}
 use Rattle.clap.proofs.OnLiterals.{clap_on_literals}
 use Rattle.vrepl_choices.specs.declared.feed_form.FeedForm.TheVariants.{Hex}
 use Rattle.vrepl_choices.specs.declared.report_form.ReportForm.TheVariants.{Lines}
-use Rattle.vrepl_words.specs.Words.{asked_by, asks_show, faults_of, program_app, words_or_default, words_of}
+use Rattle.vrepl_words.specs.commands.{asked_by, asks_show, faults_of, program_app, words_or_default, words_of}
 
 pub simple : is_simple program_app ≡ true
 unfolding program_app

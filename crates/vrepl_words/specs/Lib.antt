@@ -5,5 +5,4 @@ pub mod Portions
 pub mod Subcommand
 pub mod Untils
 pub mod Usage
-pub mod Words
 pub mod commands

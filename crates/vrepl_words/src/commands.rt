@@ -20,11 +20,11 @@ pub mod transcribe;
 pub mod vdiff;
 
 ghost use Rattle.std.specs.Prelude.{◌∷◌, [], IfOk, Some};
-ghost use Rattle.clap.specs.Words.{App, HasKind, found_of, rows_of, subcommand_rows_of, with_subcommand};
+ghost use Rattle.clap.specs.Words.{HasKind, found_of, rows_of, subcommand_rows_of};
 ghost use Rattle.clap.specs.declared.error.kind.ErrorKind.TheVariants.{ValueValidation};
-ghost use Rattle.vrepl_words.specs.Built.{HasApp, bare_app};
+ghost use Rattle.vrepl_words.specs.Built.{HasApp, HasOneMore, bare_app};
 ghost use Rattle.vrepl_words.specs.Subcommand.{Reads};
-ghost use Rattle.vrepl_words.specs.Words.{asked_by, program_app, value_of_words};
+ghost use Rattle.vrepl_words.specs.commands.{asked_by, program_app, value_of_words};
 
 use crate::numbers::bad_number;
 use clap::{ArgMatches, Command, Error};
@@ -124,7 +124,7 @@ fn with_subcommand<'w>(
     command: Result<Command<'w>, AllocError>,
     sub: Result<Command<'w>, AllocError>,
 ) -> Result<Command<'w>, AllocError>
-    ensures { (app leaf : App) → IfOk command.entry (HasApp app) → IfOk sub.entry (HasApp leaf) → IfOk result (HasApp (with_subcommand app leaf.top)) }
+    ensures { HasOneMore command.entry sub.entry result }
 {
     let command = command?;
     let sub = sub?;
@@ -142,6 +142,7 @@ pub(crate) fn asked<'w>(alloc: Global, matches: &ArgMatches<'w>) -> Result<Words
 }
 
 /// What the subcommand of this name asks for.
+#[tactic(auto, using(crate::proofs::MetSubcommand::other_text), unfolding(crate::specs::commands::asked_by))]
 fn asked_by_name<'w>(alloc: Global, name: &str, given: &ArgMatches<'w>) -> Result<Words<'w>, Error>
     ensures { Reads value_of_words (asked_by (Some (name.now, rows_of (found_of given.now)))) result }
 {

@@ -3,7 +3,7 @@
 ghost use Rattle.std.specs.Prelude.{◌≡◌, ◌≢◌, [], IfOk, Some, map, string_bytes};
 ghost use Rattle.clap.specs.Words.{FailsBy};
 ghost use Rattle.vrepl_words.specs.Built.{HasApp};
-ghost use Rattle.vrepl_words.specs.Words.{faults_of, program_app, value_of_words, words_of};
+ghost use Rattle.vrepl_words.specs.commands.{faults_of, program_app, value_of_words, words_of};
 
 use crate::commands::show::Show;
 use crate::commands::{Words, asked, program};

@@ -2,7 +2,7 @@ use Rattle.std.proofs.Common.{◌∙◌, ap, subst, sym, option_map}
 use Rattle.clap.specs.Kinds.{HasKind, Kinds}
 use Rattle.clap.specs.Words.{found_of, rows_of}
 use Rattle.vrepl_words.specs.Subcommand.{Reads, range_fault}
-use Rattle.vrepl_words.specs.Words.{asked_by, value_of_words}
+use Rattle.vrepl_words.specs.commands.{asked_by, value_of_words}
 use Rattle.vrepl_words.proofs.MetSubcommand.{met, none_met}
 use Rattle.vrepl_words.proofs.commands.asked.Goals as goal
 

@@ -6,7 +6,9 @@ use Rattle.vrepl_words.proofs.Builders.{adds_subcommand}
 use Rattle.vrepl_words.proofs.commands.with_subcommand.Goals as goal
 
 pub returns : goal.returns
-returns c = λ app leaf has is.
-    let command = subst (λ r. IfOk r (HasApp app)) c.in_ok-command.was has in
-    let sub = subst (λ r. IfOk r (HasApp leaf)) c.in_ok-sub.was is in
-    IfOk-weaker c.subcommand.result _ _ (λ made adds. adds_subcommand app leaf c.in_ok-command.command made c.in_ok-sub.sub adds command sub) c.subcommand.ensures
+returns c = record {
+  has = λ app leaf has is.
+      let command = subst (λ r. IfOk r (HasApp app)) c.in_ok-command.was has in
+      let sub = subst (λ r. IfOk r (HasApp leaf)) c.in_ok-sub.was is in
+      IfOk-weaker c.subcommand.result _ _ (λ made adds. adds_subcommand app leaf c.in_ok-command.command made c.in_ok-sub.sub adds command sub) c.subcommand.ensures;
+}

@@ -1,5 +1,5 @@
 use Rattle.std.proofs.Common.{◌∙◌, ap, map, string_bytes}
-use Rattle.vrepl_words.specs.Words.{faults_of, words_of}
+use Rattle.vrepl_words.specs.commands.{faults_of, words_of}
 use Rattle.vrepl_words.proofs.TakenWords.{no_word, no_words_asked, no_words_taken, some_word}
 use Rattle.vrepl_words.proofs.reading.read.Goals as goal
 

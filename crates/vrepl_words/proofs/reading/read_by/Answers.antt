@@ -3,7 +3,7 @@ use Rattle.std.proofs.lemmas.Result.{err_from_is_err_and}
 use Rattle.clap.specs.Words.{fault_of, is_simple, is_simple_and_free}
 use Rattle.clap.specs.Kinds.{HasKind, Kinds}
 use Rattle.vrepl_words.specs.Subcommand.{range_fault}
-use Rattle.vrepl_words.specs.Words.{asked_by, program_app, value_of_words, words_of, words_or_default}
+use Rattle.vrepl_words.specs.commands.{asked_by, program_app, value_of_words, words_of, words_or_default}
 use Rattle.vrepl_words.proofs.ReadWords.{fails_by, read_is}
 use Rattle.vrepl_words.proofs.TakenWords.{faults_are, first_has, simple, simple_and_free, spelled_is, words_are}
 use Rattle.vrepl_words.proofs.reading.read_by.Goals as goal
