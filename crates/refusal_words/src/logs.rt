@@ -122,8 +122,9 @@ FLOAT, DOUBLE, JSON of MySQL, a COMPRESSED column, times of before 5.6, or ENUM
 and SET without their labels. The line has the table.
 Usual causes: such a column; binlog_row_metadata that isn't FULL, for ENUM and
 SET; a workflow file of another time.
-What to do: set binlog_row_metadata to FULL; tables with such columns are
-recorded by record/feed.
+What to do: set binlog_row_metadata to FULL; leave a table with such a column
+out, or give the column a type that is read, as DECIMAL, and begin anew with a
+log behind that.
 ";
 
 pub const LOG_VALUE: &str = "\
@@ -151,7 +152,8 @@ schema, or brings rows into such a table without events. It is judged by its
 words: an index, a view or another schema's table of this name is refused, too.
 The line has the table.
 Usual causes: ALTER, DROP, RENAME or TRUNCATE TABLE.
-What to do: record with record/feed, which knows what leaves rows as they are.
+What to do: begin anew behind the statement, with the rows of then: record/feed
+--anew-behind does, and what the feed has stays.
 ";
 
 pub const LOG_PACKED: &str = "\
