@@ -9,7 +9,7 @@ use Rattle.log_events.specs.declared.fault.LogFault.{LogFault}
 use Rattle.log_events.specs.Number.{little, number}
 use Rattle.log_events.specs.Event.{LogEvent, IsEvent, NoEvent, event_at, events_of}
 use Rattle.log_events.specs.Log.{LogValue, magic, IsLog, log_at}
-use Rattle.log_events.specs.Cuts.{size_of_events, byte_behind, cut_behind, AreCut, CutsAreLogs, IsCutBehind, LogsAreCut}
+use Rattle.log_events.specs.Cuts.{size_of_events, byte_behind, cut_behind, AreCut, CutsAreLogs, IsCutBehind, LogsAreCut, NextIsCut}
 use Rattle.log_events.proofs.NumberLaws.{number-front}
 use Rattle.log_events.proofs.EventLaws.{event_reader}
 use Rattle.log_events.proofs.LogLaws.{log_answers, log_only}
@@ -139,32 +139,55 @@ value_is : (log : LogValue) (items : List LogEvent) (left : ℕ) → items ≡ l
     → log ≡ record { in_use = log.in_use; events = record { items = items; fault = None }; left = left }
 value_is log items left e none f = rw (e, f, sym none) refl
 
-cut_there : (bytes : List ℕ) (log front : LogValue) (byte : ℕ) → log_at bytes ≡ Ok log → byte ≤ length bytes → front.events.fault ≡ None → IsLog (take byte bytes) front → IsCutBehind bytes log byte front
-cut_there bytes log front byte e within none h =
+-- the whole bytes are a log too
+record IsWhole (bytes : List ℕ) (byte : ℕ) (front : LogValue) (h : IsLog (take byte bytes) front) : Type 0 where
+  log : LogValue
+  is : log_at bytes ≡ Ok log
+  others : Reading LogEvent EventFault
+  value : log ≡ record { in_use = front.in_use; events = record { items = front.events.items ++ others.items; fault = others.fault }; left = length (h.rest ++ drop byte bytes) }
+  bytes_are : bytes ≡ magic ++ (h.first ++ (h.rest ++ drop byte bytes))
+
+whole_of : (bytes : List ℕ) (byte : ℕ) (front : LogValue) → front.events.fault ≡ None → (h : IsLog (take byte bytes) front) → IsWhole bytes byte front h
+whole_of bytes byte front none h =
     let more : List ℕ = drop byte bytes in
     let others : Reading LogEvent EventFault = events_of h.checked more in
     let items : List LogEvent = front.events.items in
     let are : Are h.checked h.rest items None = let events = h.events in rw none at events in
     let all : bytes ≡ magic ++ (h.first ++ (h.rest ++ more)) = sym (take-append-drop byte bytes) ∙ ap (λ (xs : List ℕ). xs ++ more) h.is ∙ append_assoc (magic ++ h.first) h.rest more in
     let whole : LogValue = record { in_use = front.in_use; events = record { items = items ++ others.items; fault = others.fault }; left = length (h.rest ++ more) } in
-    let read : log_at bytes ≡ Ok whole = log_only bytes whole (record {
-      first = h.first;
-      rest = h.rest ++ more;
-      description = h.description;
-      checked = h.checked;
-      is = all;
-      event = h.event;
-      format = h.format;
-      checks = h.checks;
-      in_use = h.in_use;
-      events = behind_events h.checked h.rest more items others.items others.fault are (spells-reading (IsEvent h.checked) (NoEvent h.checked) (event_at h.checked) (event_reader h.checked) more);
-      left = refl;
-    }) in
-    let is : log ≡ whole = same_log log whole (sym e ∙ read) in
+    record {
+      log = whole;
+      is = log_only bytes whole (record {
+        first = h.first;
+        rest = h.rest ++ more;
+        description = h.description;
+        checked = h.checked;
+        is = all;
+        event = h.event;
+        format = h.format;
+        checks = h.checks;
+        in_use = h.in_use;
+        events = behind_events h.checked h.rest more items others.items others.fault are (spells-reading (IsEvent h.checked) (NoEvent h.checked) (event_at h.checked) (event_reader h.checked) more);
+        left = refl;
+      });
+      others = others;
+      value = refl;
+      bytes_are = all;
+    }
+
+cut_there : (bytes : List ℕ) (log front : LogValue) (byte : ℕ) → log_at bytes ≡ Ok log → byte ≤ length bytes → front.events.fault ≡ None → IsLog (take byte bytes) front → IsCutBehind bytes log byte front
+cut_there bytes log front byte e within none h =
+    let w : IsWhole bytes byte front h = whole_of bytes byte front none h in
+    let more : List ℕ = drop byte bytes in
+    let others : Reading LogEvent EventFault = w.others in
+    let items : List LogEvent = front.events.items in
+    let are : Are h.checked h.rest items None = let events = h.events in rw none at events in
+    let whole : LogValue = record { in_use = front.in_use; events = record { items = items ++ others.items; fault = others.fault }; left = length (h.rest ++ more) } in
+    let is : log ≡ whole = same_log log w.log (sym e ∙ w.is) ∙ w.value in
     let taken : take (length items) (items ++ others.items) ≡ items = take_at items others.items (length items) refl in
     let size : size_of_events (take (length items) (items ++ others.items)) ≡ length h.rest = ap size_of_events taken ∙ whole_size h.checked h.rest items are in
     let head : length (take byte bytes) ≡ length (magic ++ h.first) + length h.rest = ap length h.is ∙ length-append (magic ++ h.first) h.rest in
-    let long : length bytes ≡ length (magic ++ h.first) + length (h.rest ++ more) = ap length all ∙ length-append (magic ++ h.first) (h.rest ++ more) in
+    let long : length bytes ≡ length (magic ++ h.first) + length (h.rest ++ more) = ap length w.bytes_are ∙ length-append (magic ++ h.first) (h.rest ++ more) in
     let as_many : length (items ++ others.items) ≡ length items + length others.items = length-append items others.items in
     rw is (record {
       many = omega (arith, as_many);
@@ -174,3 +197,15 @@ cut_there bytes log front byte e within none h =
 
 pub are_cut : LogsAreCut
 are_cut bytes log front byte e within f none = cut_there bytes log front byte e within none (is_log (take byte bytes) front f)
+
+-- with one event more
+pub next_cut : NextIsCut
+next_cut bytes byte next front more within further f none g sound many =
+    let w = whole_of bytes byte front none (is_log (take byte bytes) front f) in
+    let a : IsCutBehind bytes w.log byte front = are_cut bytes w.log front byte w.is within f none in
+    let b : IsCutBehind bytes w.log next more = are_cut bytes w.log more next w.is further g sound in
+    let n : ℕ = length front.events.items in
+    let last : next ≡ byte_behind bytes w.log (n + 1) = b.stands ∙ ap (byte_behind bytes w.log) many in
+    let here : byte ≡ byte_behind bytes w.log n = a.stands in
+    let goes : byte_behind bytes w.log (n + 1) ≡ byte_behind bytes w.log n + number (byte_behind bytes w.log n + 9) 4 bytes = (cuts_are bytes w.log w.is).next n (omega (arith, b.many, many)) in
+    last ∙ goes ∙ ap (λ (k : ℕ). k + number (k + 9) 4 bytes) (sym here)

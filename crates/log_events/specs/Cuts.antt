@@ -44,3 +44,9 @@ abbrev pub LogsAreCut : Type 0
 LogsAreCut =
     (bytes : List ℕ) (log front : LogValue) (byte : ℕ) → log_at bytes ≡ Ok log → byte ≤ length bytes → log_at (take byte bytes) ≡ Ok front → front.events.fault ≡ None
     → IsCutBehind bytes log byte front
+
+-- With one event more a log's first bytes end behind the event that stands there, as long as its head says.
+abbrev pub NextIsCut : Type 0
+NextIsCut =
+    (bytes : List ℕ) (byte next : ℕ) (front more : LogValue) → byte ≤ length bytes → next ≤ length bytes → log_at (take byte bytes) ≡ Ok front → front.events.fault ≡ None → log_at (take next bytes) ≡ Ok more → more.events.fault ≡ None
+    → length more.events.items ≡ length front.events.items + 1 → next ≡ byte + number (byte + 9) 4 bytes
