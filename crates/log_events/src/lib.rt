@@ -15,6 +15,6 @@ pub use crc::CrcTable;
 pub use event::Event;
 pub use events::Events;
 pub use fault::{EventFault, LogFault};
-pub use laws::{cuts_are_logs, logs_are_cut};
+pub use laws::{cuts_are_logs, logs_are_cut, next_is_cut};
 pub use log::{Log, log_of, logs_are_read};
 pub use number::{Size, behind, number_at};
