@@ -10,3 +10,4 @@ pub mod WholeLaws
 pub mod SpoolLaws
 pub mod ByteLaws
 pub mod CountLaws
+pub mod NowhereLaws

@@ -1,5 +1,5 @@
 -- Messages on their way to a writer: parts one behind another, and files one behind another.
-use Rattle.std.proofs.Common.{◌≡◌, ◌⊎◌, inl, inr, ℕ, ◌+◌, ◌-◌, ◌<◌, ◌≤◌, Bool, true, false, List, [], ◌∷◌, ◌++◌, length, Option, None, Some, Result, Ok, Err, refl, sym, ap, subst, ◌∙◌, arith, append_assoc, append-nil}
+use Rattle.std.proofs.Common.{◌≡◌, inl, inr, ℕ, ◌+◌, ◌-◌, ◌<◌, ◌≤◌, Bool, true, false, List, [], ◌∷◌, ◌++◌, length, Option, None, Some, Result, Ok, Err, refl, sym, ap, subst, ◌∙◌, arith, append_assoc, append-nil}
 use Rattle.std.proofs.lemmas.List.{length-append}
 use Rattle.std.specs.Prelude.{IfOk, if◌then◌else◌}
 use Rattle.list_laws.specs.Outcome.{◌>>=◌, Refuses}
@@ -301,15 +301,15 @@ is_last (Ok x) = refl
 is_last (Err fault) = tt
 
 -- what still waits is at fault where the events end, however many transactions are told
-still_by : (file : ℕ) (b : Bool) (bytes : List ℕ) (told : Option ℕ) (fault : LogsFault) (byte : ℕ) → ◌≡◌ {A = Result (Unit {0}) LogsFault} (if b then Err (Course (file - 1) (Group StillPrepared)) else Ok tt) (Err fault) → StandsAt bytes None fault byte → StandsAt bytes told fault byte
-still_by file false bytes told fault byte e is = cc
-still_by file true bytes told fault byte e is =
+still_by : (file : ℕ) (b : Bool) (bytes : List ℕ) (one other : Option ℕ) (fault : LogsFault) (byte : ℕ) → ◌≡◌ {A = Result (Unit {0}) LogsFault} (if b then Err (Course (file - 1) (Group StillPrepared)) else Ok tt) (Err fault) → StandsAt bytes one fault byte → StandsAt bytes other fault byte
+still_by file false bytes one other fault byte e is = cc
+still_by file true bytes one other fault byte e is =
     let same : Course (file - 1) (Group StillPrepared) ≡ fault = same_fault {X = Unit {0}} (Course (file - 1) (Group StillPrepared)) fault e in
-    subst (λ (f : LogsFault). StandsAt bytes told f byte) same (subst (λ (f : LogsFault). StandsAt bytes None f byte) (sym same) is)
+    subst (λ (f : LogsFault). StandsAt bytes other f byte) same (subst (λ (f : LogsFault). StandsAt bytes one f byte) (sym same) is)
 
 still_there : (file : ℕ) (waiting : List WaitingValue) (bytes : List ℕ) (told : Option ℕ) (fault : LogsFault) (byte : Option ℕ) → none_waits file waiting ≡ Err fault → IsByteAt bytes None fault byte → IsByteAt bytes told fault byte
-still_there file waiting bytes told fault None e is = tt
-still_there file waiting bytes told fault (Some byte) e is = still_by file (still_waits waiting) bytes told fault byte e is
+still_there file waiting bytes told fault None e is = λ byte at. is byte (still_by file (still_waits waiting) bytes told None fault byte e at)
+still_there file waiting bytes told fault (Some byte) e is = still_by file (still_waits waiting) bytes None told fault byte e is
 
 module _ {A : Type 0} (told : ℕ → List WaitingValue → List ℕ → A → Result (Going A × List WaitingValue) LogsFault) (tells : Telling A) (are : AreTelling told tells) (count : Counts A) (Gives : ℕ → List ℕ → Type 0) where
   -- where a fault of files from one on stands
@@ -327,9 +327,8 @@ module _ {A : Type 0} (told : ℕ → List WaitingValue → List ℕ → A → R
 
   -- a fault of the others stands where it does
   rest_there : (many to : ℕ) (left : List WaitingValue) (logs : List (List ℕ)) (far : A) (fault : LogsFault) (byte : Option ℕ) → IsSettled many to left → to + length logs ≤ many → IsBytes to [] logs far fault byte → IsBytes to left logs far fault byte
-  rest_there many to left logs far fault None settled within is = tt
-  rest_there many to left [] far fault (Some byte) settled within is = absurd is
-  rest_there many to left (l ∷ logs) far fault (Some byte) settled within is = subst (λ (w : List WaitingValue). StandsFrom told count to w (l ∷ logs) far fault byte) (sym (settled.before (omega (arith, within)))) is
+  rest_there many to left [] far fault byte settled within is = absurd is
+  rest_there many to left (l ∷ logs) far fault byte settled within is = subst (λ (w : List WaitingValue). IsBytes to w (l ∷ logs) far fault byte) (sym (settled.before (omega (arith, within)))) is
 
   pub none_yet : (file many : ℕ) (far : A) (s : Sending) → GoesOver (λ logs. tells file [] logs far) (λ logs fault byte. IsBytes file [] logs far fault byte) tells IsBytes Gives file many file far s s
   none_yet file many far s = record {
@@ -342,17 +341,34 @@ module _ {A : Type 0} (told : ℕ → List WaitingValue → List ℕ → A → R
   pub no_file : (many : ℕ) (far : A) (now : Sending) → many ≡ 0 → AreTold (λ others. tells 0 [] [] far) Gives 0 many far now now
   no_file many far now none = record { logs = []; gave = tt; all = omega (arith, none); goes = ([], went_nothing now, ap (λ r. with_messages r now.waits) (done_there 0 [] far refl)) }
 
+  -- it stands at no byte of a file that is told and isn't the last, nor of those behind it
+  not_last : (o : List ℕ) (others : List (List ℕ)) → ◌≡◌ {A = List (List ℕ)} (o ∷ others) [] → ⊥
+  not_last o others e = cc
+
+  file_not : (file : ℕ) (waiting : List WaitingValue) (bytes : List ℕ) (far : A) (x : Going A × List WaitingValue) (others : List (List ℕ)) (fault : LogsFault) (byte : ℕ) → told file waiting bytes far ≡ Ok x → (others ≡ [] → ⊥)
+      → (StandsFrom told count (file + 1) x.1 others x.0.1 fault byte → ⊥) → StandsFrom told count file waiting (bytes ∷ others) far fault byte → ⊥
+  file_not file waiting bytes far x others fault byte e more not (inl at) = more (let last = at.0 in rw e at last)
+  file_not file waiting bytes far x others fault byte e more not (inr rest) =
+      not (subst (λ (y : Going A × List WaitingValue). StandsFrom told count (file + 1) y.1 others y.0.1 fault byte) (same_told rest.0 x (sym rest.1 ∙ e)) rest.2)
+
+  last_not : (file : ℕ) (waiting : List WaitingValue) (bytes : List ℕ) (far : A) (fault : LogsFault) (byte : ℕ) → (StandsAt bytes (count file waiting bytes far) fault byte → ⊥) → StandsFrom told count file waiting (bytes ∷ []) far fault byte → ⊥
+  last_not file waiting bytes far fault byte not (inl at) = not at.1
+  last_not file waiting bytes far fault byte not (inr rest) = rest.2
+
   -- a fault behind a file that is told
   file_there : (file : ℕ) (waiting : List WaitingValue) (bytes : List ℕ) (far next : A) (left : List WaitingValue) (out outs : List ℕ) (others : List (List ℕ)) (fault : LogsFault) (byte : Option ℕ) → with_waiting (told file waiting bytes far) out ≡ Ok ((outs, next), left)
       → IsBytes (file + 1) left others next fault byte → IsBytes file waiting (bytes ∷ others) far fault byte
-  file_there file waiting bytes far next left out outs others fault None e is = tt
-  file_there file waiting bytes far next left out outs others fault (Some byte) e is =
+  file_there file waiting bytes far next left out outs [] fault byte e is = absurd is
+  file_there file waiting bytes far next left out outs (o ∷ others) fault None e is =
       let x = waiting_so (told file waiting bytes far) out outs next left e in
-      inr (x.0, x.1, subst (λ (w : List WaitingValue). StandsFrom told count (file + 1) w others x.0.0.1 fault byte) (sym x.3) (subst (λ (a : A). StandsFrom told count (file + 1) left others a fault byte) (sym x.2) is))
+      λ byte at. file_not file waiting bytes far x.0 (o ∷ others) fault byte x.1 (λ last. not_last o others last) (λ rest. is byte (subst (λ (w : List WaitingValue). StandsFrom told count (file + 1) w (o ∷ others) next fault byte) x.3 (subst (λ (a : A). StandsFrom told count (file + 1) x.0.1 (o ∷ others) a fault byte) x.2 rest))) at
+  file_there file waiting bytes far next left out outs (o ∷ others) fault (Some byte) e is =
+      let x = waiting_so (told file waiting bytes far) out outs next left e in
+      inr (x.0, x.1, subst (λ (w : List WaitingValue). StandsFrom told count (file + 1) w (o ∷ others) x.0.0.1 fault byte) (sym x.3) (subst (λ (a : A). StandsFrom told count (file + 1) left (o ∷ others) a fault byte) (sym x.2) is))
 
   -- a fault of the last one
   last_there : (file : ℕ) (waiting : List WaitingValue) (bytes : List ℕ) (far : A) (fault : LogsFault) (byte : Option ℕ) → IsByteAt bytes (count file waiting bytes far) fault byte → IsBytes file waiting (bytes ∷ []) far fault byte
-  last_there file waiting bytes far fault None is = tt
+  last_there file waiting bytes far fault None is = λ byte at. last_not file waiting bytes far fault byte (is byte) at
   last_there file waiting bytes far fault (Some byte) is = inl (is_last (told file waiting bytes far), is)
 
   -- one file is told
@@ -568,7 +584,7 @@ pub record IsPart {A : Type 0} (tells : List (List ℕ) → Result (Going A) Log
   pub ends : (logs : List (List ℕ)) (out : List ℕ) (far : A) → from + length logs ≡ many → with_messages (tells logs) [] ≡ Ok (out, far) → bytes_told (whole logs) ≡ last_with (last far) out
   pub stops : (logs : List (List ℕ)) (fault : LogsFault) → tells logs ≡ Err fault → whole logs ≡ Err fault
 
-module _ {A : Type 0} (tells : List (List ℕ) → Result (Going A) LogsFault) (whole : List (List ℕ) → Result (List (List EventValue)) LogsFault) (IsByte : Places) (Gives : ℕ → List ℕ → Type 0) (from many : ℕ) where
+module _ {A : Type 0} (tells : List (List ℕ) → Result (Going A) LogsFault) (whole : List (List ℕ) → Result (List (List EventValue)) LogsFault) (IsByte IsWhole : Places) (Gives : ℕ → List ℕ → Type 0) (from many : ℕ) where
   told_bytes : (logs : List (List ℕ)) (far : A) (old now : Sending) (goes : GoesOn (tells logs) (done far) old now) → old.waits ≡ [] → with_messages (tells logs) [] ≡ Ok (goes.0 ++ now.waits, far)
   told_bytes logs far old now goes fresh = ap (with_messages (tells logs)) (sym fresh) ∙ goes.2 ∙ ap (λ (b : List ℕ). Ok (b, far)) (append-nil (goes.0 ++ now.waits))
 
@@ -586,8 +602,8 @@ module _ {A : Type 0} (tells : List (List ℕ) → Result (Going A) LogsFault) (
         many_bytes = is ∙ both.sent 0 none ∙ ap counted (omega arith);
       }
 
-  pub end_stopped : (last : A → Result (List (List EventValue)) LogsFault) → IsPart tells whole from many last → ((logs : List (List ℕ)) (fault : LogsFault) → IsByte logs fault None) → (far : A) (error : StreamError) (old now new : Sending) → old.waits ≡ []
-      → AreTold tells Gives from many far old now → PutsEnd (last far) (Err error) now new → StopsNowhere error → TellsAll whole IsByte Gives from many (Err error) old.written new.written
+  pub end_stopped : (last : A → Result (List (List EventValue)) LogsFault) → IsPart tells whole from many last → ((logs : List (List ℕ)) (fault : LogsFault) (far : A) → last far ≡ Err fault → IsWhole logs fault None) → (far : A) (error : StreamError) (old now new : Sending) → old.waits ≡ []
+      → AreTold tells Gives from many far old now → PutsEnd (last far) (Err error) now new → StopsNowhere error → TellsAll whole IsWhole Gives from many (Err error) old.written new.written
   end_stopped last part nowhere far stop.Memory old now new fresh sofar end none = tt
   end_stopped last part nowhere far stop.Unwritten old now new fresh sofar end none = breaks_behind old now new sofar.goes.0 sofar.goes.1 end
   end_stopped last part nowhere far (stop.Unread at) old now new fresh sofar end none = absurd end
@@ -601,15 +617,16 @@ module _ {A : Type 0} (tells : List (List ℕ) → Result (Going A) LogsFault) (
         (ap whole (append-nil sofar.logs)
         ∙ bytes_fault (whole sofar.logs) fault
         (part.ends sofar.logs (sofar.goes.0 ++ now.waits) far sofar.all (told_bytes sofar.logs far old now sofar.goes fresh) ∙ last_fault (last far) (sofar.goes.0 ++ now.waits) fault end));
-    there = subst (λ (b : Option ℕ). IsByte sofar.logs fault b) (sym none) (nowhere sofar.logs fault);
+    there = subst (λ (b : Option ℕ). IsWhole sofar.logs fault b) (sym none) (nowhere sofar.logs fault far end);
   }
 
-  pub files_stopped : (last : A → Result (List (List EventValue)) LogsFault) → IsPart tells whole from many last → (far : A) (error : StreamError) (old new : Sending) → PutsFiles tells IsByte Gives from many far (Err error) old new → TellsAll whole IsByte Gives from many (Err error) old.written new.written
-  files_stopped last part far stop.Memory old new put = tt
-  files_stopped last part far stop.Unwritten old new put = put
-  files_stopped last part far (stop.Unread at) old new put = put
-  files_stopped last part far (stop.Feed fault) old new put = absurd put
-  files_stopped last part far (stop.Fault fault byte) old new put = record { logs = put.logs; gave = put.gave; within = put.within; is = λ others both. part.stops (put.logs ++ others) fault (put.is others both); there = put.there }
+  pub files_stopped : (last : A → Result (List (List EventValue)) LogsFault) → IsPart tells whole from many last → ((logs : List (List ℕ)) (fault : LogsFault) (byte : Option ℕ) → IsByte logs fault byte → IsWhole logs fault byte) → (far : A) (error : StreamError) (old new : Sending)
+      → PutsFiles tells IsByte Gives from many far (Err error) old new → TellsAll whole IsWhole Gives from many (Err error) old.written new.written
+  files_stopped last part of far stop.Memory old new put = tt
+  files_stopped last part of far stop.Unwritten old new put = put
+  files_stopped last part of far (stop.Unread at) old new put = put
+  files_stopped last part of far (stop.Feed fault) old new put = absurd put
+  files_stopped last part of far (stop.Fault fault byte) old new put = record { logs = put.logs; gave = put.gave; within = put.within; is = λ others both. part.stops (put.logs ++ others) fault (put.is others both); there = of put.logs fault byte put.there }
 
 -- ---- of logs, and of logs behind a feed
 

@@ -1,5 +1,5 @@
 -- The whole of what is told, file by file, is the feed of the definition.
-use Rattle.std.proofs.Common.{◌≡◌, ◌⊎◌, inl, inr, ℕ, ◌+◌, ◌-◌, ◌^◌, ◌<◌, ◌≤◌, List, [], ◌∷◌, ◌++◌, length, Option, None, Some, Result, Ok, Err, refl, sym, ap, subst, ◌∙◌, arith, append-nil}
+use Rattle.std.proofs.Common.{◌≡◌, inl, inr, ℕ, ◌+◌, ◌-◌, ◌^◌, ◌<◌, ◌≤◌, List, [], ◌∷◌, ◌++◌, length, Option, None, Some, Result, Ok, Err, refl, sym, ap, subst, ◌∙◌, arith, append-nil}
 use Rattle.std.proofs.lemmas.Bool.{cond-true, cond-false, lt-ltb, le-ltb}
 use Rattle.std.specs.Prelude.{nat_lt}
 use Rattle.list_laws.specs.Outcome.{◌>>=◌, Refuses}
@@ -20,15 +20,16 @@ use Rattle.log_transcribe.specs.declared.fault.BehindFault.TheVariants as behind
 use Rattle.log_transcribe.specs.declared.fault.StreamError.{StreamError}
 use Rattle.log_transcribe.specs.declared.fault.StreamError.TheVariants as stop
 use Rattle.log_transcribe.specs.declared.files.LogBytes.{LogBytes}
-use Rattle.log_transcribe.specs.Behind.{Along, along_of, begun, behind_told, bytes_behind, behind_of_logs, short_behind}
+use Rattle.log_transcribe.specs.Behind.{Along, along_of, begun, behind_told, bytes_behind, behind_of_logs, log_behind, short_behind}
 use Rattle.log_transcribe.specs.Fault.{meant, of_logs, behind_meant, feed_error, logs_error as error_of}
 use Rattle.log_transcribe.specs.Feed.{IsFeedOfLogs}
 use Rattle.log_transcribe.specs.Files.{GaveFrom, log_bytes}
 use Rattle.log_transcribe.specs.Further.{IsFeedBehind}
 use Rattle.log_transcribe.specs.Said.{feed_end}
-use Rattle.log_transcribe.specs.Standing.{IsByteBehind, IsByteIn, IsByteInBehind, IsByteOfFirst}
+use Rattle.log_transcribe.specs.Standing as stands
+use Rattle.log_transcribe.specs.Standing.{IsByteBeyond, IsByteIn, IsByteInBehind, IsByteOfFirst, told_in}
 use Rattle.log_transcribe.specs.Streamed.{EndsSo, IsUnreadAt}
-use Rattle.log_transcribe.specs.Transcript.{feed_told, feed_of_logs}
+use Rattle.log_transcribe.specs.Transcript.{feed_told, feed_of_logs, log_told, nothing_told}
 use Rattle.log_transcribe.specs.Private.Bytes.{bytes_told}
 use Rattle.log_transcribe.specs.Private.Goes.{SequelValue}
 use Rattle.log_transcribe.specs.Private.Opens.{HasFirst, Gave, IsFirst, IsOpened, OpensBehind, StopsFirst, logs_from, place_behind, stop_of}
@@ -36,6 +37,7 @@ use Rattle.log_transcribe.specs.Private.Sends.{AreUnread, IsOfLogs, TellsAll, co
 use Rattle.log_transcribe.proofs.FeedLaws.{FeedLaws, feed_right}
 use Rattle.log_transcribe.proofs.FurtherLaws.{BehindLaws, further_right}
 use Rattle.log_transcribe.proofs.GoingLaws.{bytes-given, bytes-refused}
+use Rattle.log_transcribe.proofs.NowhereLaws.{nowhere_in, too_long_nowhere}
 use Rattle.log_transcribe.proofs.StreamLaws.{no_others}
 use Rattle.log_transcribe.proofs.WritingLaws.{feed-given, feed-long, told_so}
 
@@ -80,7 +82,7 @@ module _ (s : SourceTables) (Gives : ℕ → List ℕ → Type 0) (many : ℕ) w
           subst (λ (o : List (List ℕ)). of_logs (feed_of_logs s (w.logs ++ o)) ≡ Err (behind_fault.Logs (TooLong many))) (sym (no_others w.logs others 0 many w.all (omega (arith, both))))
           (ap (λ (r : Result (List ℕ) LogsFault). of_logs r) (ap (feed_of_logs s) (append-nil w.logs) ∙ feed-long s w.logs many w.feed (omega (arith, w.all)) w.is (long_by (length w.feed) size (2 ^ 31) w.many_bytes long)));
     };
-    there = tt;
+    there = nowhere_in (λ at left bytes f. log_told at s left bytes f) (λ at left bytes f. told_in at s left bytes f) w.logs (nothing_told s) (TooLong many) (too_long_nowhere many);
   }
 
   pub feed_stopped : (error : StreamError) (old new : Written) → TellsAll (λ logs. feed_told s logs) (λ logs fault byte. IsByteIn s logs fault byte) Gives 0 many (Err error) old new → Ends (Err error) old new
@@ -176,7 +178,7 @@ module _ (s : SourceTables) (feed : List ℕ) (Gives : ℕ → List ℕ → Type
 
   module _ (log : Option LogBytes) (first : HasFirst many log) (gave : Gave Gives log) (q : SequelValue) (o : IsOpened s feed log q) where
     abbrev Tells : Result ℕ StreamError → Written → Written → Type 0
-    Tells result old new = TellsAll (λ others. behind_told q.source q.had q.along (logs_from log others)) (λ others fault byte. IsByteBehind 0 q.source q.had [] (logs_from log others) q.along fault byte) Gives (place_behind log) many result old new
+    Tells result old new = TellsAll (λ others. behind_told q.source q.had q.along (logs_from log others)) (λ others fault byte. IsByteBeyond q.source q.had (logs_from log others) q.along fault byte) Gives (place_behind log) many result old new
 
     abbrev so : SequelValue → List (List ℕ) → Result (List (List EventValue)) LogsFault
     so q logs = behind_told q.source q.had q.along logs
@@ -185,7 +187,7 @@ module _ (s : SourceTables) (feed : List ℕ) (Gives : ℕ → List ℕ → Type
     told_is logs = ap (λ (q : SequelValue). so q logs) o.is
 
     -- where a fault of theirs stands
-    gone_behind : (logs : List (List ℕ)) (fault : LogsFault) (byte : Option ℕ) → IsByteBehind 0 q.source q.had [] (logs_from log logs) q.along fault byte → IsByteInBehind s feed (logs_from log logs) fault byte
+    gone_behind : (logs : List (List ℕ)) (fault : LogsFault) (byte : Option ℕ) → IsByteBeyond q.source q.had (logs_from log logs) q.along fault byte → IsByteInBehind s feed (logs_from log logs) fault byte
     gone_behind logs fault byte is = inr (record {
       reached = o.reached;
       end = o.end;
@@ -193,7 +195,7 @@ module _ (s : SourceTables) (feed : List ℕ) (Gives : ℕ → List ℕ → Type
       begins = o.begins logs;
       had = o.had;
       said = o.said;
-      byte_there = subst (λ (q : SequelValue). IsByteBehind 0 q.source q.had [] (logs_from log logs) q.along fault byte) o.is is;
+      byte_there = subst (λ (q : SequelValue). IsByteBeyond q.source q.had (logs_from log logs) q.along fault byte) o.is is;
     })
 
     pub behind_written : BehindLaws → (size : ℕ) (old new : Written) → Tells (Ok size) old new → size < 2 ^ 31 - length feed → EndsBehind (Ok tt) old new
@@ -231,7 +233,7 @@ module _ (s : SourceTables) (feed : List ℕ) (Gives : ℕ → List ℕ → Type
                 (λ others both. subst (λ (o : List (List ℕ)). behind_of_logs s feed (logs_from log (w.logs ++ o)) ≡ Err (behind_fault.Logs (TooLong many))) (sym (no_others w.logs others (place_behind log) many w.all both))
                 (subst (λ (ls : List (List ℕ)). behind_of_logs s feed (logs_from log ls) ≡ Err (behind_fault.Logs (TooLong many))) (sym (append-nil w.logs)) (faulty w.logs (TooLong many) made)));
           };
-          there = gone_behind w.logs (TooLong many) None tt;
+          there = gone_behind w.logs (TooLong many) None (nowhere_in (λ at left bytes b. log_behind at q.source q.had left bytes b) (λ at left bytes b. stands.told_behind at q.source q.had left bytes b) (logs_from log w.logs) q.along (TooLong many) (too_long_nowhere many));
         }
 
     pub behind_stopped : (error : StreamError) (old new : Written) → Tells (Err error) old new → EndsBehind (Err error) old new
@@ -257,8 +259,8 @@ module _ (s : SourceTables) (feed : List ℕ) (log : Option LogBytes) where
   feed_stops fault e = e
 
   first_byte : (log : Option LogBytes) (fault : LogsFault) (byte : Option ℕ) → StopsFirst log (stop.Fault fault byte) → IsByteOfFirst (logs_from log []) fault byte
-  first_byte log fault None is = tt
-  first_byte None fault (Some byte) is = cc
+  first_byte None fault byte is = is
+  first_byte (Some log) fault None is = is
   first_byte (Some log) fault (Some byte) is = is
 
   pub logs_stop : (reached : List Interval) (error : LogsError) (stops : StreamError) → feed_end s feed ≡ Ok reached → Refuses meant error (begun reached (logs_from log [])) → IsOfLogs error stops → StopsFirst log stops

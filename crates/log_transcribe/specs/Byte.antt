@@ -7,6 +7,7 @@ use Rattle.log_events.specs.declared.fault.LogFault.TheVariants.{NoLog, Encrypte
 use Rattle.log_events.specs.Log.{LogValue, log_at}
 use Rattle.log_groups.specs.declared.fault.GroupFault.{GroupFault}
 use Rattle.log_groups.specs.declared.fault.GroupFault.TheVariants.{Event, Unended, Twice, NotPrepared, StillPrepared}
+use Rattle.log_groups.specs.Cuts.{MayGoOn}
 use Rattle.log_groups.specs.Step.{steps_of}
 use Rattle.log_groups.specs.Transaction.{transactions_of}
 use Rattle.log_places.specs.declared.fault.PlaceFault.{PlaceFault}
@@ -36,12 +37,6 @@ pub record BeginsAt (bytes : List ℕ) (byte transactions : ℕ) : Type 0 where
   pub next : ℕ
   pub before : IsCut bytes byte events transactions None
   pub behind : IsCut bytes next (events + 1) transactions (Some Unended)
-
--- the events so far are at no fault, where the last transaction may be open
-abbrev pub MayGoOn : Option GroupFault → Type 0
-MayGoOn None = Unit {0}
-MayGoOn (Some Unended) = Unit {0}
-MayGoOn (Some fault) = ⊥
 
 -- those before the byte are at no fault, and with the event that stands there they are at this one
 pub record FailsAt (bytes : List ℕ) (byte : ℕ) (fault : GroupFault) : Type 0 where
@@ -116,3 +111,7 @@ StandsAt bytes told (Course file fault) byte = CourseAt bytes told fault byte
 StandsAt bytes told (Tell file (Change fault)) byte = BeginsBehind bytes told byte
 StandsAt bytes told (Tell file Position) byte = ⊥
 StandsAt bytes told (TooLong file) byte = ⊥
+
+-- at no byte of them
+abbrev pub StandsNowhere : List ℕ → Option ℕ → LogsFault → Type 0
+StandsNowhere bytes told fault = (byte : ℕ) → StandsAt bytes told fault byte → ⊥

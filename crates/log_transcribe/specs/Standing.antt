@@ -12,7 +12,7 @@ use Rattle.log_transcribe.specs.declared.fault.LogsFault.{LogsFault}
 use Rattle.log_transcribe.specs.Transcript.{log_told, nothing_told}
 use Rattle.log_transcribe.specs.Behind.{Along, group_behind, log_behind, begun, unsaid, along_of}
 use Rattle.log_transcribe.specs.Said.{feed_end, feed_said}
-use Rattle.log_transcribe.specs.Byte.{StandsAt}
+use Rattle.log_transcribe.specs.Byte.{StandsAt, StandsNowhere}
 
 -- ---- how many transactions of a file are told
 
@@ -62,10 +62,11 @@ StandsFrom {A} tell told file waiting (bytes ∷ logs) far fault byte =
     (IsLast (tell file waiting bytes far) logs × StandsAt bytes (told file waiting bytes far) fault byte)
     ⊎ ((x : Told A × List WaitingValue) × (tell file waiting bytes far ≡ Ok x) × StandsFrom tell told (file + 1) x.1 logs x.0.1 fault byte)
 
--- where a byte is told
+-- where a byte is told; none is where the fault stands at none. It is one of these files.
 abbrev pub IsByteFrom : {A : Type 0} → TellsFile A → Counts A → ℕ → List WaitingValue → List (List ℕ) → A → LogsFault → Option ℕ → Type 0
-IsByteFrom tell told file waiting logs far fault None = Unit {0}
-IsByteFrom tell told file waiting logs far fault (Some byte) = StandsFrom tell told file waiting logs far fault byte
+IsByteFrom tell told file waiting [] far fault byte = ⊥
+IsByteFrom tell told file waiting (bytes ∷ logs) far fault None = (byte : ℕ) → StandsFrom tell told file waiting (bytes ∷ logs) far fault byte → ⊥
+IsByteFrom tell told file waiting (bytes ∷ logs) far fault (Some byte) = StandsFrom tell told file waiting (bytes ∷ logs) far fault byte
 
 -- of logs, and of logs behind a feed
 abbrev pub IsByteOfLogs : ℕ → SourceTables → List WaitingValue → List (List ℕ) → Far → LogsFault → Option ℕ → Type 0
@@ -76,14 +77,23 @@ IsByteBehind file s had waiting logs a fault byte = IsByteFrom (λ at left bytes
 
 -- ---- the whole
 
+-- of all files; without any there is none
+abbrev pub OfAll : (List (List ℕ) → LogsFault → Option ℕ → Type 0) → List (List ℕ) → LogsFault → Option ℕ → Type 0
+OfAll IsByte [] fault byte = byte ≡ None
+OfAll IsByte (bytes ∷ logs) fault byte = IsByte (bytes ∷ logs) fault byte
+
 -- the byte of the first fault of logs
 abbrev pub IsByteIn : SourceTables → List (List ℕ) → LogsFault → Option ℕ → Type 0
-IsByteIn s logs fault byte = IsByteOfLogs 0 s [] logs (nothing_told s) fault byte
+IsByteIn s logs fault byte = OfAll (λ logs fault byte. IsByteOfLogs 0 s [] logs (nothing_told s) fault byte) logs fault byte
+
+-- of logs behind a feed
+abbrev pub IsByteBeyond : SourceTables → List Stage → List (List ℕ) → Along → LogsFault → Option ℕ → Type 0
+IsByteBeyond s had logs a fault byte = OfAll (λ logs fault byte. IsByteBehind 0 s had [] logs a fault byte) logs fault byte
 
 -- where the first log isn't begun with, or is behind the feed's position
 abbrev pub IsByteOfFirst : List (List ℕ) → LogsFault → Option ℕ → Type 0
-IsByteOfFirst logs fault None = Unit {0}
-IsByteOfFirst [] fault (Some byte) = ⊥
+IsByteOfFirst [] fault byte = byte ≡ None
+IsByteOfFirst (bytes ∷ logs) fault None = StandsNowhere bytes None fault
 IsByteOfFirst (bytes ∷ logs) fault (Some byte) = StandsAt bytes None fault byte
 
 -- what a feed says, behind which the logs are told
@@ -94,7 +104,7 @@ pub record IsGoneBehind (s : SourceTables) (feed : List ℕ) (logs : List (List 
   pub begins : begun reached logs ≡ Ok first
   pub had : List Stage
   pub said : feed_said s (unsaid first) feed ≡ Ok had
-  pub byte_there : IsByteBehind 0 s had [] logs (along_of reached first had) fault byte
+  pub byte_there : IsByteBeyond s had logs (along_of reached first had) fault byte
 
 -- the byte of the first fault of logs behind a feed
 abbrev pub IsByteInBehind : SourceTables → List ℕ → List (List ℕ) → LogsFault → Option ℕ → Type 0

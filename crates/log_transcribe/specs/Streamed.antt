@@ -24,7 +24,7 @@ pub record IsRefused (of_logs : List (List ℕ) → Result (List ℕ) BehindFaul
   pub gave : GaveFrom Gives 0 logs
   pub is : (others : List (List ℕ)) → length logs + length others ≡ many → of_logs (logs ++ others) ≡ Err fault
 
--- The first fault, and where it stands in these bytes, if a byte is told.
+-- The first fault, and where it stands in these bytes: the byte, or none where it stands at none.
 pub record IsRefusedAt (of_logs : List (List ℕ) → Result (List ℕ) BehindFault) (IsByte : List (List ℕ) → LogsFault → Option ℕ → Type 0) (Gives : ℕ → List ℕ → Type 0) (many : ℕ) (fault : LogsFault) (byte : Option ℕ) : Type 0 where
   pub refused : IsRefused of_logs Gives many (Logs fault)
   pub there : IsByte refused.logs fault byte
@@ -36,8 +36,8 @@ pub record IsUnreadAt (Gives : ℕ → List ℕ → Type 0) (many file : ℕ) : 
   pub gave : GaveFrom Gives 0 logs
   pub before : length logs ≡ file
 
--- All was told; or it says why not: the first fault of the definition, and at which byte of its file it stands, if it does at
--- one; a file that can't be read; a write that failed; or want of memory.
+-- All was told; or it says why not: the first fault of the definition, and at which byte of its file it stands, or that it does
+-- at none; a file that can't be read; a write that failed; or want of memory.
 abbrev pub EndsSo : (List (List ℕ) → Result (List ℕ) BehindFault) → (List (List ℕ) → LogsFault → Option ℕ → Type 0) → (List (List ℕ) → List ℕ → Type 0) → (ℕ → List ℕ → Type 0) → ℕ → Result (Unit {0}) StreamError → Written → Written → Type 0
 EndsSo of_logs IsByte IsRight Gives many (Ok x) old new = IsTold of_logs IsRight Gives many old new
 EndsSo of_logs IsByte IsRight Gives many (Err stop.Memory) old new = Unit {0}

@@ -1,16 +1,16 @@
 //! Whether a byte of a file is the one at which a fault stands: the file's first bytes are read once more.
 
-ghost use Rattle.std.specs.Prelude.{◌≡◌, true, length, None, Some, IfOk, IfSome};
+ghost use Rattle.std.specs.Prelude.{◌≡◌, ◌≤◌, ℕ, List, Option, true, false, length, None, Some, IfOk};
+ghost use Rattle.log_groups.specs.Cuts.{MayGoOn};
 ghost use Rattle.log_groups.specs.declared.fault.GroupFault.TheVariants.{Unended};
-ghost use Rattle.log_transcribe.specs.Byte.{BeginsAt, BeginsBehind, MayGoOn, FailsAt, EndsAt, GroupAt, IsFirst, NoNumberAt, PlaceAt, CourseAt, StandsAt, byte_of_log};
-ghost use Rattle.log_transcribe.specs.Private.Cuts.{AreCuts, Follows, IsCutAt};
+ghost use Rattle.log_transcribe.specs.Byte.{BeginsBehind, FailsAt, GroupAt, IsFirst, NoNumberAt, PlaceAt, CourseAt, StandsAt, byte_of_log};
+ghost use Rattle.log_transcribe.specs.Private.Cuts.{Begins, BeginningIs, CutIs, CutsAre, EndIs, Fails, Follows, NextIs, StandsNotBefore};
 ghost use Rattle.log_transcribe.specs.Private.Sends.{IsByteAt, IsOfLogs, StopsAt};
 ghost use Rattle.log_transcribe.specs.declared.fault.LogsError.TheVariants as logs_error;
 
-use crate::events::behind_event;
 use crate::fault::{LogsFault, StreamError};
 use log_course::CourseFault;
-use log_events::{CrcTable, EventFault, Events, LogFault, log_of};
+use log_events::{CrcTable, EventFault, Events, LogFault, Size, behind, log_of, number_at};
 use log_groups::{GroupError, GroupFault, Transactions};
 use log_laws::TellFault;
 use log_places::PlaceFault;
@@ -73,7 +73,7 @@ fn cut_at(
     bytes: &[u8],
     byte: usize,
 ) -> Result<Option<Cut>, AllocError>
-    ensures { IfOk result (λ cut. IfSome cut (λ c. IsCutAt bytes.now byte c)) }
+    ensures { IfOk result (λ cut. CutIs bytes.now byte cut) }
 {
     if bytes.len() < byte {
         return Ok(None);
@@ -97,6 +97,18 @@ fn cut_at(
     }))
 }
 
+/// The byte behind the event at one, by its head, if that is within the file.
+fn next_at(bytes: &[u8], byte: usize) -> Option<usize>
+    ensures { NextIs bytes.now byte result }
+{
+    let left = bytes.len().checked_sub(byte)?;
+    let size = number_at(behind(bytes, byte), 9, Size::Four) as usize;
+    if left < size {
+        return None;
+    }
+    Some(byte + size)
+}
+
 /// What they are up to a byte, and with the event that stands there.
 fn cuts_at(
     alloc: Global,
@@ -104,12 +116,15 @@ fn cuts_at(
     bytes: &[u8],
     byte: usize,
 ) -> Result<Option<(Cut, Cut)>, AllocError>
-    ensures { IfOk result (λ cuts. IfSome cuts (λ c. AreCuts bytes.now byte c.0 c.1)) }
+    ensures { IfOk result (λ cuts. CutsAre bytes.now byte cuts) }
 {
     let Some(before) = cut_at(alloc, table, bytes, byte)? else {
         return Ok(None);
     };
-    let Some(behind) = cut_at(alloc, table, bytes, behind_event(bytes, byte))? else {
+    let Some(next) = next_at(bytes, byte) else {
+        return Ok(None);
+    };
+    let Some(behind) = cut_at(alloc, table, bytes, next)? else {
         return Ok(None);
     };
     Ok(Some((before, behind)))
@@ -117,7 +132,8 @@ fn cuts_at(
 
 /// Whether one has an event more than the other, and as many transactions.
 fn follows(before: Cut, behind: Cut) -> bool
-    ensures { result ≡ true → Follows before behind }
+    ensures is { result ≡ true → Follows before behind }
+    ensures no { result ≡ false → Follows before behind → ⊥ }
 {
     before.events < behind.events
         && behind.events - before.events == 1
@@ -126,7 +142,8 @@ fn follows(before: Cut, behind: Cut) -> bool
 
 /// Whether the transactions of events end so.
 fn is_end(end: Option<GroupFault>, fault: GroupFault) -> bool
-    ensures { result ≡ true → end ≡ Some fault }
+    ensures is { result ≡ true → end ≡ Some fault }
+    ensures no { result ≡ false → end ≡ Some fault → ⊥ }
 {
     match end {
         Some(other) => other == fault,
@@ -136,13 +153,30 @@ fn is_end(end: Option<GroupFault>, fault: GroupFault) -> bool
 
 /// Whether the events so far are at no fault, where the last transaction may be open.
 fn may_go_on(end: Option<GroupFault>) -> bool
-    ensures { result ≡ true → MayGoOn end }
+    ensures is { result ≡ true → MayGoOn end }
+    ensures no { result ≡ false → MayGoOn end → ⊥ }
 {
     match end {
         None => true,
         Some(GroupFault::Unended) => true,
         Some(_) => false,
     }
+}
+
+/// Whether a transaction begins with the event more.
+fn begins(before: Cut, behind: Cut) -> bool
+    ensures is { result ≡ true → Begins before behind }
+    ensures no { result ≡ false → Begins before behind → ⊥ }
+{
+    before.end.is_none() && is_end(behind.end, GroupFault::Unended) && follows(before, behind)
+}
+
+/// Whether the event more is at this fault.
+fn fails(before: Cut, behind: Cut, fault: GroupFault) -> bool
+    ensures is { result ≡ true → Fails before behind fault }
+    ensures no { result ≡ false → Fails before behind fault → ⊥ }
+{
+    may_go_on(before.end) && is_end(behind.end, fault) && follows(before, behind)
 }
 
 /// Behind how many transactions one begins at a byte, if one does.
@@ -152,12 +186,12 @@ fn beginning_at(
     bytes: &[u8],
     byte: usize,
 ) -> Result<Option<usize>, AllocError>
-    ensures { IfOk result (λ many. IfSome many (λ n. BeginsAt bytes.now byte n)) }
+    ensures { IfOk result (λ many. BeginningIs bytes.now byte many) }
 {
     let Some((before, behind)) = cuts_at(alloc, table, bytes, byte)? else {
         return Ok(None);
     };
-    if before.end.is_none() && is_end(behind.end, GroupFault::Unended) && follows(before, behind) {
+    if begins(before, behind) {
         return Ok(Some(before.transactions));
     }
     Ok(None)
@@ -171,7 +205,8 @@ fn begins_behind(
     told: Option<usize>,
     byte: usize,
 ) -> Result<bool, AllocError>
-    ensures { IfOk result (λ is. is ≡ true → BeginsBehind bytes.now told byte) }
+    ensures is { IfOk result (λ is. is ≡ true → BeginsBehind bytes.now told byte) }
+    ensures no { IfOk result (λ is. is ≡ false → BeginsBehind bytes.now told byte → ⊥) }
 {
     let Some(before) = told else {
         return Ok(false);
@@ -189,7 +224,8 @@ fn is_unended(
     bytes: &[u8],
     byte: usize,
 ) -> Result<bool, AllocError>
-    ensures { IfOk result (λ is. is ≡ true → GroupAt bytes.now None Unended byte) }
+    ensures is { IfOk result (λ is. is ≡ true → GroupAt bytes.now None Unended byte) }
+    ensures no { IfOk result (λ is. is ≡ false → GroupAt bytes.now None Unended byte → ⊥) }
 {
     let Some(transactions) = beginning_at(alloc, table, bytes, byte)? else {
         return Ok(false);
@@ -197,7 +233,10 @@ fn is_unended(
     let Some(whole) = cut_at(alloc, table, bytes, bytes.len())? else {
         return Ok(false);
     };
-    Ok(whole.transactions == transactions && is_end(whole.end, GroupFault::Unended))
+    if whole.transactions != transactions {
+        return Ok(false);
+    }
+    Ok(is_end(whole.end, GroupFault::Unended))
 }
 
 /// Whether the event at a byte is at this fault.
@@ -208,12 +247,13 @@ fn is_failing(
     byte: usize,
     fault: GroupFault,
 ) -> Result<bool, AllocError>
-    ensures { IfOk result (λ is. is ≡ true → FailsAt bytes.now byte fault) }
+    ensures is { IfOk result (λ is. is ≡ true → FailsAt bytes.now byte fault) }
+    ensures no { IfOk result (λ is. is ≡ false → FailsAt bytes.now byte fault → ⊥) }
 {
     let Some((before, behind)) = cuts_at(alloc, table, bytes, byte)? else {
         return Ok(false);
     };
-    Ok(may_go_on(before.end) && is_end(behind.end, fault) && follows(before, behind))
+    Ok(fails(before, behind, fault))
 }
 
 /// What stands behind all events of a file, where these end at a byte: its end or a fault.
@@ -223,7 +263,7 @@ fn end_at(
     bytes: &[u8],
     byte: usize,
 ) -> Result<Option<Option<EventFault>>, AllocError>
-    ensures { IfOk result (λ end. IfSome end (λ fault. EndsAt bytes.now byte fault)) }
+    ensures { IfOk result (λ end. EndIs bytes.now byte end) }
 {
     let Some(before) = cut_at(alloc, table, bytes, byte)? else {
         return Ok(None);
@@ -240,7 +280,8 @@ fn end_at(
 
 /// Whether that is this fault.
 fn is_event_fault(end: Option<Option<EventFault>>, fault: EventFault) -> bool
-    ensures { result ≡ true → end ≡ Some (Some fault) }
+    ensures is { result ≡ true → end ≡ Some (Some fault) }
+    ensures no { result ≡ false → end ≡ Some (Some fault) → ⊥ }
 {
     match end {
         Some(Some(other)) => other == fault,
@@ -250,7 +291,8 @@ fn is_event_fault(end: Option<Option<EventFault>>, fault: EventFault) -> bool
 
 /// Whether no event stands before a byte.
 fn is_first(alloc: Global, table: &CrcTable, bytes: &[u8], byte: usize) -> Result<bool, AllocError>
-    ensures { IfOk result (λ is. is ≡ true → IsFirst bytes.now byte) }
+    ensures is { IfOk result (λ is. is ≡ true → IsFirst bytes.now byte) }
+    ensures no { IfOk result (λ is. is ≡ false → IsFirst bytes.now byte → ⊥) }
 {
     let Some(cut) = cut_at(alloc, table, bytes, byte)? else {
         return Ok(false);
@@ -267,7 +309,8 @@ fn group_at(
     byte: usize,
     fault: GroupFault,
 ) -> Result<bool, AllocError>
-    ensures { IfOk result (λ is. is ≡ true → GroupAt bytes.now told fault byte) }
+    ensures is { IfOk result (λ is. is ≡ true → GroupAt bytes.now told fault byte) }
+    ensures no { IfOk result (λ is. is ≡ false → GroupAt bytes.now told fault byte → ⊥) }
 {
     match fault {
         GroupFault::Event(fault) => {
@@ -293,7 +336,8 @@ fn no_number_at(
     told: Option<usize>,
     byte: usize,
 ) -> Result<bool, AllocError>
-    ensures { IfOk result (λ is. is ≡ true → NoNumberAt bytes.now told byte) }
+    ensures is { IfOk result (λ is. is ≡ true → NoNumberAt bytes.now told byte) }
+    ensures no { IfOk result (λ is. is ≡ false → NoNumberAt bytes.now told byte → ⊥) }
 {
     if told.is_none() {
         return is_first(alloc, table, bytes, byte);
@@ -310,7 +354,8 @@ fn place_at(
     byte: usize,
     fault: PlaceFault,
 ) -> Result<bool, AllocError>
-    ensures { IfOk result (λ is. is ≡ true → PlaceAt bytes.now told fault byte) }
+    ensures is { IfOk result (λ is. is ≡ true → PlaceAt bytes.now told fault byte) }
+    ensures no { IfOk result (λ is. is ≡ false → PlaceAt bytes.now told fault byte → ⊥) }
 {
     match fault {
         PlaceFault::GoesBack => begins_behind(alloc, table, bytes, told, byte),
@@ -339,7 +384,8 @@ fn course_at(
     byte: usize,
     fault: CourseFault,
 ) -> Result<bool, AllocError>
-    ensures { IfOk result (λ is. is ≡ true → CourseAt bytes.now told fault byte) }
+    ensures is { IfOk result (λ is. is ≡ true → CourseAt bytes.now told fault byte) }
+    ensures no { IfOk result (λ is. is ≡ false → CourseAt bytes.now told fault byte → ⊥) }
 {
     match fault {
         CourseFault::Log(fault) => Ok(byte == byte_of_log(fault)),
@@ -357,7 +403,8 @@ fn stands_at(
     byte: usize,
     fault: LogsFault,
 ) -> Result<bool, AllocError>
-    ensures { IfOk result (λ is. is ≡ true → StandsAt bytes.now told fault byte) }
+    ensures is { IfOk result (λ is. is ≡ true → StandsAt bytes.now told fault byte) }
+    ensures no { IfOk result (λ is. is ≡ false → StandsAt bytes.now told fault byte → ⊥) }
 {
     match fault {
         LogsFault::Course(_, fault) => course_at(alloc, table, bytes, told, byte, fault),
@@ -367,7 +414,68 @@ fn stands_at(
     }
 }
 
-/// The byte of a fault of a file, if it stands there.
+/// Whether a fault may stand at a byte: a position that is too long, and a feed, stand at none.
+fn has_place(fault: LogsFault) -> bool
+    ensures no { (bytes : List ℕ) (told : Option ℕ) (byte : ℕ) → result ≡ false → StandsAt bytes told fault byte → ⊥ }
+{
+    match fault {
+        LogsFault::Course(_, _) => true,
+        LogsFault::Tell(_, TellFault::Change(_)) => true,
+        LogsFault::Tell(_, TellFault::Position) => false,
+        LogsFault::TooLong(_) => false,
+    }
+}
+
+/// A byte up to which each fault stands that does at any.
+fn last_byte(bytes: &[u8]) -> usize
+    ensures long { length bytes.now ≤ result }
+    ensures log { 4 ≤ result }
+{
+    if bytes.len() < 4 { 4 } else { bytes.len() }
+}
+
+/// The byte of a fault of a file, looked for at each one.
+fn sought(
+    alloc: Global,
+    table: &CrcTable,
+    bytes: &[u8],
+    told: Option<usize>,
+    fault: LogsFault,
+) -> Result<Option<usize>, AllocError>
+    ensures { IfOk result (λ byte. IsByteAt bytes.now told fault byte) }
+{
+    let last = last_byte(bytes);
+    let mut byte: usize = 0;
+    loop {
+        if stands_at(alloc, table, bytes, told, byte, fault)? {
+            return Ok(Some(byte));
+        }
+        if last <= byte {
+            return Ok(None);
+        }
+        byte += 1;
+    }
+}
+
+/// Whether a fault stands at a byte that may be known.
+fn stands_there(
+    alloc: Global,
+    table: &CrcTable,
+    bytes: &[u8],
+    told: Option<usize>,
+    byte: Option<usize>,
+    fault: LogsFault,
+) -> Result<bool, AllocError>
+    ensures { IfOk result (λ is. is ≡ true → IsByteAt bytes.now told fault byte) }
+{
+    match byte {
+        Some(byte) => stands_at(alloc, table, bytes, told, byte, fault),
+        None => Ok(false),
+    }
+}
+
+/// The byte of a fault of a file: the one that is thought of where it stands there; else each is tried, which no log is known to
+/// need.
 fn byte_of(
     alloc: Global,
     table: &CrcTable,
@@ -378,16 +486,16 @@ fn byte_of(
 ) -> Result<Option<usize>, AllocError>
     ensures { IfOk result (λ byte. IsByteAt bytes.now told fault byte) }
 {
-    let Some(place) = byte else {
+    if !has_place(fault) {
         return Ok(None);
-    };
-    if stands_at(alloc, table, bytes, told, place, fault)? {
-        return Ok(Some(place));
     }
-    Ok(None)
+    if stands_there(alloc, table, bytes, told, byte, fault)? {
+        return Ok(byte);
+    }
+    sought(alloc, table, bytes, told, fault)
 }
 
-/// A fault of a file, with its byte, if it stands there.
+/// A fault of a file, with its byte, if it stands at one.
 pub(crate) fn told_at(
     alloc: Global,
     table: &CrcTable,

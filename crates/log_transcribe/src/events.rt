@@ -12,7 +12,7 @@ fn size_at(bytes: &[u8], place: usize) -> usize {
 }
 
 /// The place behind the event at a place.
-pub(crate) fn behind_event(bytes: &[u8], place: usize) -> usize {
+fn behind_event(bytes: &[u8], place: usize) -> usize {
     place.saturating_add(size_at(bytes, place))
 }
 

@@ -8,7 +8,7 @@ ghost use Rattle.log_transcribe.specs.Fault.{meant, behind_meant};
 ghost use Rattle.log_transcribe.specs.Transcript.{source_value};
 ghost use Rattle.log_transcribe.specs.Behind.{listed_first, first_list, begun_by, begun, unsaid, logs_behind, behind_told, behind_of_logs};
 ghost use Rattle.log_transcribe.specs.Further.{IsFeedBehind};
-ghost use Rattle.log_transcribe.specs.Standing.{IsByteBehind, IsByteInBehind};
+ghost use Rattle.log_transcribe.specs.Standing.{IsByteBehind, IsByteBeyond, IsByteInBehind};
 ghost use Rattle.log_transcribe.specs.Streamed.{EndsSo};
 ghost use Rattle.log_transcribe.specs.Files.{log_bytes};
 ghost use Rattle.log_transcribe.specs.Private.Opens.{HasFirst, IsFirst, OpensBehind, StopsFirst, logs_from, place_behind, stop_of};
@@ -242,7 +242,7 @@ fn told_behind<L: LogFiles, W: Out>(
     log: Option<LogBytes<'_>>,
 ) -> Result<usize, StreamError>
     requires { HasFirst (L.many files.now) log }
-    ensures { TellsAll (λ others. behind_told sequel.entry.source sequel.entry.had sequel.entry.along (logs_from log.entry others)) (λ others fault byte. IsByteBehind 0 sequel.entry.source sequel.entry.had [] (logs_from log.entry others) sequel.entry.along fault byte) (L.gives files.now) (place_behind log.entry) (L.many files.now) result (W.written out.old) (W.written out.new) }
+    ensures { TellsAll (λ others. behind_told sequel.entry.source sequel.entry.had sequel.entry.along (logs_from log.entry others)) (λ others fault byte. IsByteBeyond sequel.entry.source sequel.entry.had (logs_from log.entry others) sequel.entry.along fault byte) (L.gives files.now) (place_behind log.entry) (L.many files.now) result (W.written out.old) (W.written out.new) }
 {
     let mut sequel = sequel;
     let mut outgoing = Outgoing::new(alloc);

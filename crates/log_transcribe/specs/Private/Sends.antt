@@ -1,5 +1,5 @@
 -- Messages on their way to a writer, file by file.
-use Rattle.std.specs.Prelude.{◌≡◌, ◌⊎◌, ◌<◌, ◌≤◌, ℕ, ◌+◌, ◌-◌, ◌^◌, min, Bool, true, false, List, [], ◌++◌, length, Option, None, Some, Result, Ok, Err}
+use Rattle.std.specs.Prelude.{◌≡◌, ◌<◌, ◌≤◌, ℕ, ◌+◌, ◌-◌, ◌^◌, min, Bool, true, false, List, [], ◌++◌, length, Option, None, Some, Result, Ok, Err}
 use Rattle.printing.specs.Printing.{Written, IsWritten, BreaksOff}
 use Rattle.vevent.specs.EventValue.{EventValue}
 use Rattle.log_groups.specs.Group.{WaitingValue, still_waits}
@@ -12,7 +12,7 @@ use Rattle.log_transcribe.specs.declared.fault.BehindFault.TheVariants.{Feed, Lo
 use Rattle.log_transcribe.specs.declared.fault.BehindError.{BehindError}
 use Rattle.log_transcribe.specs.declared.fault.BehindError.TheVariants as behind_error
 use Rattle.log_transcribe.specs.declared.outgoing.Outgoing.{Outgoing}
-use Rattle.log_transcribe.specs.Byte.{StandsAt}
+use Rattle.log_transcribe.specs.Byte.{StandsAt, StandsNowhere}
 use Rattle.log_transcribe.specs.Files.{GaveFrom}
 use Rattle.log_transcribe.specs.Private.Bytes.{with_messages, with_waiting, last_with, bytes_told}
 
@@ -80,9 +80,10 @@ IsOfLogs (logs_error.Fault fault) stop.Memory = Unit {0}
 IsOfLogs (logs_error.Fault fault) (stop.Fault other byte) = other ≡ fault
 IsOfLogs (logs_error.Fault fault) error = ⊥
 
--- where a byte is told of a file's bytes, the fault stands there, behind so many of its transactions that are told
+-- where a byte is told of a file's bytes, the fault stands there, behind so many of its transactions that are told; none is where
+-- it stands at none
 abbrev pub IsByteAt : List ℕ → Option ℕ → LogsFault → Option ℕ → Type 0
-IsByteAt bytes told fault None = Unit {0}
+IsByteAt bytes told fault None = StandsNowhere bytes told fault
 IsByteAt bytes told fault (Some byte) = StandsAt bytes told fault byte
 
 abbrev pub StopsAt : List ℕ → Option ℕ → StreamError → Type 0
@@ -142,7 +143,7 @@ Stills all (Err error) = ⊥
 abbrev pub Telling : Type 0 → Type 0
 Telling A = ℕ → List WaitingValue → List (List ℕ) → A → Result (Going A) LogsFault
 
--- whether a fault of files stands at a byte, if one is told; of those from one on too
+-- where a fault of files stands; of those from one on too
 abbrev pub Places : Type 1
 Places = List (List ℕ) → LogsFault → Option ℕ → Type 0
 
@@ -156,8 +157,7 @@ pub record AreTold {A : Type 0} (tells : List (List ℕ) → Result (Going A) Lo
   pub all : file + length logs ≡ many
   pub goes : GoesOn (tells logs) (done next) old new
 
--- By what the files from one on gave there is a fault, whatever the others have; and where it stands in these bytes, if a byte
--- is told.
+-- By what the files from one on gave there is a fault, whatever the others have; and where it stands in these bytes.
 pub record AreRefused {X : Type 0} (tells : List (List ℕ) → Result X LogsFault) (IsByte : Places) (Gives : ℕ → List ℕ → Type 0) (file many : ℕ) (fault : LogsFault) (byte : Option ℕ) : Type 0 where
   pub logs : List (List ℕ)
   pub gave : GaveFrom Gives file logs
