@@ -494,7 +494,7 @@ def of_two_servers(trial) -> None:
         servers = [options(trial, "one.cnf", trial.server.socket), options(trial, "other.cnf", other.socket)]
         feeds = [trial.path("moved0.feed"), trial.path("moved1.feed")]
         for file, shard, feed in zip(servers, SHARDS, feeds):
-            trial.made("record/feed", "--defaults-file", file, "--by-recorder", f"--shard={shard}", "--from-snapshot", "--out", feed, "moved.t")
+            trial.made("record/feed", "--defaults-file", file, "--program", trial.program, f"--shard={shard}", "--from-snapshot", "--out", feed, "moved.t")
         workflow = trial.workflow("moved.json", SHARDS, ["moved.t"])
         words = ["--program", trial.program, "--servers", ",".join(servers), "--json", workflow, *feeds, "moved", "moved"]
         over, seen = threading.Event(), []
