@@ -1,4 +1,4 @@
-"""Transactions as the groups of a feed: a message, or several of about a megabyte, a table's columns before its first row."""
+"""Rows as the groups of a feed: a message, or several of about a megabyte, a table's columns before its first row."""
 from collections.abc import Iterable, Iterator
 from typing import NamedTuple
 

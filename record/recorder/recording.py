@@ -15,7 +15,7 @@ from .elsewhere import Elsewhere
 from .ending import Ended, Held, Last, tell
 from .events import LogEvent
 from .feedfile import FeedFile, check_free
-from .groups import Change, Groups
+from .groups import Groups
 from .locks import check_there, locked
 from .logcopies import Copies
 from .messages import Message, Stored, rows_of

@@ -269,7 +269,7 @@ AMID_THE_LOG = [
     ("an index", "CREATE INDEX i ON o.t (v); INSERT INTO o.t VALUES (2, 2)", "refused 152 file "),
     ("a view of it", "CREATE VIEW o.w AS SELECT * FROM o.t; INSERT INTO o.t VALUES (3, 3)", "refused 152 file "),
     ("a packed log", "SET GLOBAL log_bin_compress=1; INSERT INTO o.t VALUES (4, 4)", "log_bin_compress is on: packed events aren't read; SET GLOBAL log_bin_compress=0, FLUSH BINARY LOGS, and "),
-    ("a log that was packed", "SET GLOBAL log_bin_compress=1, log_bin_compress_min_len=10//USE o; INSERT INTO t SELECT seq, 1 FROM seq_100_to_300; SET GLOBAL log_bin_compress=0", "refused 153 file "),
+    ("a log that was packed", "SET GLOBAL log_bin_compress=1, log_bin_compress_min_len=10//USE o; CREATE TABLE p (id INT PRIMARY KEY, v TEXT); INSERT INTO p SELECT seq, REPEAT('a', 900) FROM seq_1_to_9; SET GLOBAL log_bin_compress=0", "refused 153 file "),
     ("TRUNCATE", "TRUNCATE o.t; INSERT INTO o.t VALUES (5, 5)", "refused 152 file "),
     ("statement format", "SET binlog_format=STATEMENT; INSERT INTO o.t VALUES (6, 6)", "refused 151 file "),
     ("a row image", "SET binlog_row_image=MINIMAL; UPDATE o.t SET v=1 WHERE id=6", "refused 147 file "),

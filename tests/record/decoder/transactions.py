@@ -6,7 +6,7 @@ the log, or is dropped here.
 """
 import struct
 import zlib
-from collections.abc import Iterable, Iterator, Sequence
+from collections.abc import Iterable, Iterator
 from typing import NamedTuple
 
 from recorder.catalogue import Name, Table
