@@ -88,14 +88,14 @@ class FeedFile:
     def whole(self, opened: ExitStack) -> BinaryIO:
         """A file, open, that has all groups, those that are kept aside among them."""
         with writing(self.path):
-            if isinstance(self._aside, SpooledTemporaryFile):
+            if self.is_there and self._kept < self.size:
                 self._aside.rollover()
             self._aside.flush()
             there = opened.enter_context(os.fdopen(open_file(self._own or self.path, os.O_RDONLY), "rb"))
-            size, behind = os.fstat(there.fileno()).st_size, self.size - self._kept if self.is_there else 0
-        if not behind and size == self.size:
-            return there
-        return opened.enter_context(beginning(there, self._kept, self._aside) if behind else beginning(there, self.size))
+            size = os.fstat(there.fileno()).st_size
+        if self.is_there and self._kept < self.size:
+            return opened.enter_context(beginning(there, self._kept, self._aside))
+        return there if size == self.size else opened.enter_context(beginning(there, self.size))
 
     @property
     def waits(self) -> bool:

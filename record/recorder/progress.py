@@ -20,14 +20,14 @@ class Progress:
         self._start, self._whole = start.offset, max(1, sum(sizes[log] for log in between) - start.offset)
         self._last, self._told_at = -1, time.monotonic()
 
-    def at(self, place: Place, groups: int) -> None:
+    def at(self, place: Place, count: int) -> None:
         part = min(1000, 1000 * (self._before.get(place.log, 0) + place.offset - self._start) // self._whole)
         if self._is_seen and part != self._last:
             self._last = part
-            show(f"\r[{'#' * (part // 40):25}] {part / 10:5.1f}% {place} {groups} groups")
+            show(f"\r[{'#' * (part // 40):25}] {part / 10:5.1f}% {place} {count} transactions")
         elif not self._is_seen and time.monotonic() >= self._told_at + MINUTE:
             self._told_at = time.monotonic()
-            tell(f"feed: {time.strftime('%Y-%m-%dT%H:%M:%SZ', time.gmtime())} {part / 10:.1f}% of the log read, at {place}; {groups} groups")
+            tell(f"feed: {time.strftime('%Y-%m-%dT%H:%M:%SZ', time.gmtime())} {part / 10:.1f}% of the log read, at {place}; {count} transactions")
 
     def close(self) -> None:
         if self._is_seen and self._last >= 0:

@@ -384,7 +384,7 @@ def at_each_line(trial) -> None:
                 return done
 
         def judge(done: Done) -> str | None:
-            is_so = done.stays and set(done.left) - {"a.feed.lock"} == {"a.feed", "a.feed.json"} and done.has_group == (done.status == 0)
+            is_so = done.stays and set(done.left) - {"a.feed.lock", "a.feed.logs"} == {"a.feed", "a.feed.json"} and done.has_group == (done.status == 0)
             why = done.why_not_stopped("ended by SIGTERM") if done.status else None
             return why or (None if is_so else f"{done}, {done.left}, {done.has_group}")
 
