@@ -269,10 +269,15 @@ class Recording:
             raise Stop(f"a table that was there before the log, {'.'.join(before[0])},", f"before {self.copies.end}", ANEW)
 
     def _begin_copies(self, is_anew: bool) -> Place:
-        """Where the log is to be copied from. A table of which nothing says that it had rows has to be made in the copies, and an XA
-        transaction prepared that ends in them."""
-        whole = self._place if self._start.elsewhere else first_place(self.connection) if len(self.filled) < len(self._tables_there()) else None
+        """Where the log is to be copied from. An XA transaction that ends in the copies has to be prepared in them."""
+        whole = self._place if self._start.elsewhere else first_place(self.connection) if self._wants_made else None
         return self.copies.begin(whole, lambda: first_prepared(self.wanted.login, self.connection, self._prepared, self._place), is_anew)
+
+    @property
+    def _wants_made(self) -> bool:
+        """Whether the copies have to say that a table was made, before its first rows: one whose columns the feed hasn't told, where no
+        snapshot had it."""
+        return len(self.filled) < len(self._tables_there()) and not self.position.snapshot
 
     def _check_elsewhere(self) -> None:
         elsewhere, self._start.elsewhere = self._start.elsewhere, None
@@ -463,11 +468,11 @@ class Recording:
 
     def put(self) -> None:
         """Puts the groups in their place in the feed, and the note in its, behind which copies go that are wanted no more: those of logs
-        before that of the note, where each table has had rows, so that no log has to tell that it was made."""
+        before that of the note, unless one has to tell that a table was made."""
         if not self.pending:
             self.copies.sync()
         self.feed.put(None if self.pending else self.note)
-        if not self.pending and len(self.filled) == len(self.tables) and self.note.position == self.note.reached().text():
+        if not self.pending and not self._wants_made and self.note.position == self.note.reached().text():
             self.copies.discard_before(self.note.place.log)
 
     def lost(self) -> Lost:
