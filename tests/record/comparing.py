@@ -20,7 +20,7 @@ from .server import Server, die_with_parent
 
 ROUNDS = 50
 MADE = {
-    "t": "id BIGINT PRIMARY KEY, v VARCHAR(40), n INT, d DECIMAL(9,2), f DOUBLE, s SET('a','b','c'), e TIMESTAMP(3) NULL",
+    "t": "id BIGINT PRIMARY KEY, v VARCHAR(40), n INT, d DECIMAL(9,2), f DECIMAL(20,9), s SET('a','b','c'), e TIMESTAMP(3) NULL",
     "u": "k VARBINARY(9), m SMALLINT, b BLOB, PRIMARY KEY (m, k)",
 }
 KEYS = {"t": ["id"], "u": ["m", "k"]}
