@@ -123,6 +123,17 @@ def rotated(trial) -> None:
     snapshot.same("behind a snapshot", "--append")
     noted = json.loads(read_file(f"{snapshot.by}.json"))
     trial.check("by log, whose word", None if noted["recorder"] and noted["recorder"] != noted["gtids"] else f"{noted}")
+    amid(trial, snapshot, noted["place"]["log"], noted["place"]["offset"])
+
+
+def amid(trial, world: World, log: str, end: int) -> None:
+    """A copy that begins amid its log has the log's first event, a list, and the log's bytes from a place on, up to where the feed ends."""
+    have, want, head = read_file(f"{world.by}.logs/{log}"), read_file(os.path.join(trial.server.folder, "data", log))[:end], 4
+    for _ in range(2):
+        first, head = head, head + int.from_bytes(have[head + 9:head + 13], "little")
+    lacks, listed = len(want) - len(have), int.from_bytes(have[first + 13:first + 17], "little")
+    fine = lacks > 0 and listed == head + lacks and have[head:] == want[head + lacks:] != b"" and have[:4] == want[:4] and have[first + 4] == 163
+    trial.check("by log, a copy that begins amid its log", None if fine else f"{head}, {lacks}, {listed}, {len(have)} bytes and {len(want)}")
 
 
 def interrupted(trial) -> None:
