@@ -350,7 +350,7 @@ class Engine:
 
     def __init__(self, trial) -> None:
         self._trial, self._over, self.fault, self._names = trial, threading.Event(), None, {}
-        trial.server.sql(f"{creation('filled')} CREATE TABLE filled.positions (stream INT PRIMARY KEY, position TEXT); "
+        trial.server.sql(f"SET sql_log_bin=0; {creation('filled')} CREATE TABLE filled.positions (stream INT PRIMARY KEY, position TEXT); "
                          "INSERT INTO filled.positions VALUES (0, ''), (1, ''); ")  # fmt: skip
         self._threads = [threading.Thread(target=self._run, args=(stream,), daemon=True) for stream in range(2)]
 
