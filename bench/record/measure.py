@@ -22,7 +22,7 @@ from record.server import Server  # noqa: E402
 
 PYCACHE = tempfile.mkdtemp(prefix="vrepl-record-")
 NARROW = "id INT PRIMARY KEY, v VARCHAR(20), n INT"
-WIDE = ("id BIGINT PRIMARY KEY, a INT, b VARCHAR(60), c DATETIME, d DECIMAL(12,2), e TINYINT, f VARCHAR(255), g BIGINT, h DATE, i CHAR(10), j DOUBLE, k TIMESTAMP(3),"
+WIDE = ("id BIGINT PRIMARY KEY, a INT, b VARCHAR(60), c DATETIME, d DECIMAL(12,2), e TINYINT, f VARCHAR(255), g BIGINT, h DATE, i CHAR(10), j DECIMAL(20,9), k TIMESTAMP(3),"
         " l ENUM('one','two','three'), m TEXT")  # fmt: skip
 WIDE_ROW = ("seq, seq % 1000, CONCAT('name of ', seq), '2024-02-03 04:05:06', seq / 7, seq % 100, REPEAT('f', seq % 80), seq * 1000003, '2024-02-03', 'ten', seq / 3,"
             " '2024-02-03 04:05:06.789', ELT(1 + seq % 3, 'one', 'two', 'three'), REPEAT('m', seq % 200)")  # fmt: skip
