@@ -32,8 +32,9 @@ LEANS = ".leans"
 MOST_MARKS = 2**16
 FARTHEST = 2**32
 """The place in a log from which on a copy doesn't begin amid it: its events don't say where they end."""
-LISTED = struct.Struct("<III")
-"""How a list of transactions has each domain's last one: its domain, its server, and its number, of which the high half follows."""
+LISTED = struct.Struct("<IIQ")
+"""How a list of transactions has each domain's last one: its domain, its server, and its number."""
+SUM = struct.Struct("<I")
 PREPARED, ENDED = 0x40, 0x80
 """Of a transaction's flags: an XA transaction is prepared by it, or ended."""
 ITS_FLAGS = HEADER.size + 12
@@ -180,13 +181,16 @@ class Copies:
     def _begin_amid(self, log: str, first: Bytes) -> None:
         """Begins a copy at the place: with the log's first event, and the transactions that are before the place."""
         self._begin_log(log)
-        self._file.write(first)
+        # (the first event has a sum in every log, which the server doesn't make anew where the others have none)
+        head = bytearray(first[:-SUM.size])
+        head[FLAGS - FIRST] &= ~IN_USE
+        self._file.write(_summed(head))
         last = sorted(self._before.last.items())
-        body = struct.pack("<I", len(last)) + b"".join(LISTED.pack(domain, gtid.server, gtid.sequence & 0xFFFFFFFF) + struct.pack("<I", gtid.sequence >> 32) for domain, gtid in last)
-        is_summed = first[-5] == CRC32
-        time, _kind, server, *_ = HEADER.unpack_from(first)
-        listed = HEADER.pack(time, LogEvent.GTID_LIST, server, HEADER.size + len(body) + 4 * is_summed, self._place.offset, 0) + body
-        self._file.write(listed + (struct.pack("<I", zlib.crc32(listed)) if is_summed else b""))
+        body = struct.pack("<I", len(last)) + b"".join(LISTED.pack(domain, gtid.server, gtid.sequence) for domain, gtid in last)
+        is_summed = head[-1] == CRC32
+        time, _kind, server, *_ = HEADER.unpack_from(head)
+        listed = HEADER.pack(time, LogEvent.GTID_LIST, server, HEADER.size + len(body) + SUM.size * is_summed, self._place.offset, 0) + body
+        self._file.write(_summed(listed) if is_summed else listed)
         self._size, self._lacks = self._place.offset, self._place.offset - self._file.tell()
         self._say_in_use(True)
 
@@ -289,6 +293,11 @@ class Copies:
             with suppress(OSError):
                 self._file.close()
         self._file = None
+
+
+def _summed(event: Bytes) -> bytes:
+    """An event with its checksum."""
+    return bytes(event) + SUM.pack(zlib.crc32(event))
 
 
 def _say_in_use(file: int, is_so: bool) -> None:
