@@ -15,6 +15,7 @@ from .commands import At, Command, Done
 from .kept import read_file
 from .load import SCHEMAS, SHARDS, Load, creation, tables_of
 from .living import clients
+from .server import Server
 
 KILLS = 12
 NOTED = ["gtids", "snapshot", "position", "tables", "filled", "prepared", "keyspace", "turn", "past"]
@@ -386,7 +387,22 @@ def upgraded(trial) -> None:
     trial.server.sql("DROP DATABASE g")
 
 
+def unsummed(trial) -> None:
+    """A log without checksums, and transactions of several domains: copies begin amid it."""
+    with Server(7, "--binlog-checksum=NONE") as server:
+        aside = type(trial)(server, trial.program)
+        server.sql("CREATE DATABASE n; CREATE TABLE n.t (id INT PRIMARY KEY); CREATE TABLE n.e (id INT PRIMARY KEY); INSERT INTO n.t VALUES (1); SET gtid_domain_id=4294967295; INSERT INTO n.t VALUES (2)")
+        world = World(aside, "unsummed", "-", "n.t", "n.e")
+        world.same("a snapshot without checksums", "--from-snapshot")
+        server.sql("INSERT INTO n.t VALUES (3); SET gtid_domain_id=5, gtid_seq_no=9000000000000; INSERT INTO n.e VALUES (1); FLUSH BINARY LOGS; INSERT INTO n.t VALUES (4)")
+        world.same("behind it, without checksums", "--append")
+        shutil.rmtree(f"{world.by}.logs")
+        server.sql("DELETE FROM n.t WHERE id=1")
+        world.same("without copies and checksums", "--append")
+        trial.passed, trial.failed = trial.passed + aside.passed, trial.failed + aside.failed
+
+
 def bylog(trial) -> None:
     commands.command()
-    for step in loaded, killed, rotated, interrupted, waited, refused, altered, stopped, lives, upgraded:
+    for step in loaded, killed, rotated, interrupted, waited, refused, altered, stopped, lives, upgraded, unsummed:
         step(trial)
