@@ -55,7 +55,8 @@ def check_told(connection: Connection, tables: list[Table]) -> None:
 def _check_table(table: Table) -> None:
     """Stops at a table that the program doesn't tell as the server prints it."""
     if not PLAIN.fullmatch(table.name):
-        raise Stop(f"a table's name that isn't plain ({table.name})", f"in {table.schema}", "its letters are those of ASCII, digits, _ and $; rename it, or leave it out")
+        raise Stop(f"a table's name that isn't plain ({table.name})", f"in {table.schema}",
+                   "its letters are those of ASCII, digits, _ and $; rename it, or leave it out")  # fmt: skip
     for column in table.columns:
         kind, width = column.kind, column.printing.width
         if kind in UNREAD or width and kind != Kind.BINARY and (kind, width) != (Kind.YEAR, 4):

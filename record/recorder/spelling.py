@@ -55,7 +55,8 @@ class Spelling:
         at = next(at for at, event in enumerate(read) if messages.position_in([event]) is not None)
         behind = sum(1 + len(sized(len(event))) + len(event) for event in read[at:])
         _, begin = messages.number(_head(file, start), 0)
-        parts = [Stored(file, start + begin, end - behind - start - begin), self._said(position), *(bytes((EVENT,)) + sized(len(event)) + event for event in read[at + 1:])]
+        before = Stored(file, start + begin, end - behind - start - begin)
+        parts = [before, self._said(position), *(bytes((EVENT,)) + sized(len(event)) + event for event in read[at + 1:])]
         return [sized(sum(map(len, parts))), *parts]
 
     def _said(self, position: str) -> bytes:
