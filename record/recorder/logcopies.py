@@ -269,6 +269,11 @@ class Copies:
         folder, log = os.path.split(path)
         return Place(log, byte + self._lacking(log)) if folder == self.folder and log in self._names() else None
 
+    @property
+    def has_prepared(self) -> bool:
+        """Whether an XA transaction is prepared where the copies end, or may be: of a last one that ends it they may have a part."""
+        return bool(self.prepared or self.marks and self.marks[-1].prepared)
+
     def flush(self) -> None:
         with writing(self.folder):
             if self._file:

@@ -143,8 +143,7 @@ class Recording:
                 self.feed = opened.enter_context(FeedFile(wanted.out, groups, old, wanted.over))
             self._check_left()
             self.written = self._write_snapshot() if wanted.from_snapshot else start.written
-        if wanted.from_snapshot or wanted.behind:
-            self._tell_columns()
+        self._tell_columns(self.tables if wanted.from_snapshot or wanted.behind else [])
         self.copies = self._copies()
         opened.callback(lambda: self.copies.close())
         self._workflow = opened.enter_context(TemporaryFile(dir=self._folder))
@@ -238,16 +237,16 @@ class Recording:
         self._snapshot.close()
         return position.text() if position.snapshot else ""
 
-    def _tell_columns(self) -> None:
-        """Has the feed say the columns of each table, also of one without rows, whose first ones no log has to tell of then, and
-        the position of the snapshot, where no group of it has that."""
-        untold = [table for table in self.tables if table.name not in self.feed.told]
+    def _tell_columns(self, tables: list[Table]) -> None:
+        """Has the feed say the columns of each of these tables, also of one without rows, whose first ones no log has to tell of then,
+        and the position that was reached, where no group of it has that: behind it a log is gone on with."""
+        untold = [table for table in tables if table.name not in self.feed.told]
         if untold:
             self.position.snapshot += 1
         if untold or self.position.last and self.position.text() != self.written:
             self.written = self.position.text()
             self.feed.columns(untold, self.written)
-        self.filled |= {table.full for table in self.tables}
+        self.filled |= {table.full for table in tables}
 
     def catch_up(self) -> None:
         """Copies the log up to where it ended, and has the program read the copies. That no table was altered before is known only
@@ -339,7 +338,7 @@ class Recording:
             try:
                 self._answer(made, before)
             except Refused as refused:
-                if refused.number != OPEN or not self.copies.prepared:
+                if refused.number != OPEN or not self.copies.has_prepared:
                     raise told_refusal(refused, self.copies) from None
                 todo = f"XA COMMIT or XA ROLLBACK it (XA RECOVER lists it), and {AGAIN}"
                 self.pending = Prepared("an XA transaction is prepared", f"before {self.copies.end}", todo)
@@ -438,7 +437,7 @@ class Recording:
         self._further, self._place, self._prepared = [], self._snapshot.place, self._prepared | others
         self._recorder = self.position.gtids()
         self._snapshot.close()
-        self._tell_columns()
+        self._tell_columns(self.tables)
         self._write_workflow(self.tables)
         self.copies.close()
         self.copies = self._copies()

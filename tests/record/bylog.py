@@ -384,7 +384,24 @@ def upgraded(trial) -> None:
         trial.check(f"upgraded, {number}", None if fine else f"{done}, {noted}")
         world.decode("--append")
         trial.check(f"upgraded, {number}, groups", None if world.changes(world.by) == world.changes(world.own) else "others")
+    lags(trial, world)
     trial.server.sql("DROP DATABASE g")
+
+
+def lags(trial, world: World) -> None:
+    """A note of before may have reached more than its feed says: transactions of other tables."""
+    for end in "", ".json":
+        shutil.copy(f"{world.own}{end}", f"{world.by}{end}")
+    trial.server.sql("CREATE TABLE g.aside (id INT PRIMARY KEY); INSERT INTO g.aside VALUES (1)")
+    log, offset, gtids = trial.server.sql("SHOW MASTER STATUS; SELECT @@gtid_binlog_pos").stdout.decode().split()
+    note = json.loads(read_file(f"{world.by}.json")) | {"place": {"log": log, "offset": int(offset)}, "gtids": gtids}
+    with open(f"{world.by}.json", "w", encoding="utf-8") as file:
+        json.dump(note, file)
+    shutil.rmtree(f"{world.by}.logs")
+    trial.server.sql("INSERT INTO g.t VALUES (9)")
+    done = commands.run(*world.words("--append"))
+    world.decode("--append")
+    trial.check("upgraded, a note that is ahead", None if done.status == 0 and not done.err and world.changes(world.by) == world.changes(world.own) else f"{done}")
 
 
 def unsummed(trial) -> None:
