@@ -113,7 +113,7 @@ class Chained:
             for one in (self.source, self.server):
                 one.sql(f"CREATE DATABASE b CHARACTER SET utf8mb4; USE b; {TABLE}")
             feed = self._folder.path(f"{self._name}.feed")
-            self.recorder = self._opened.enter_context(Recorder(self.source, feed, "-", "b.t"))
+            self.recorder = self._opened.enter_context(Recorder(self.source, feed, "-", "b.t", program=self._live))
             plan = workflow(self.source, self._folder.path(f"{self._name}.json"), "b", ["-"], ["b.t"])
             url = f"mysql://root@/b?socket={self.server.socket}"
             self.target = self._opened.enter_context(Target(self._live, self._folder.path(f"{self._name}.checkpoint"), plan, [feed], "--into", url))

@@ -131,10 +131,10 @@ class Source:
     def transcribe(self, program: str, *words: str, logs: list[str] | None = None) -> list[str]:
         return [program, "transcribe", "--shard", "-", *words, self.plan, *(logs or self.logs())]
 
-    def record(self) -> list[str]:
+    def record(self, program: str) -> list[str]:
         replace = ["--replace"] if os.path.exists(self.recorded) else []
         words = ["--socket", self._server.socket, "--user", "root", "--shard", "-", *replace, "--out", self.recorded]
-        return [OWN, os.path.join(ROOT, "record/feed"), "--by-recorder", *words, *self.tables]
+        return [OWN, os.path.join(ROOT, "record/feed"), "--program", program, *words, *self.tables]
 
 
 def size_of(files: list[str]) -> float:
@@ -170,11 +170,11 @@ def filled(server: Server, shape: Shape, size: float, program: str) -> tuple[Sou
 def commands(source: Source, front: str, said: argparse.Namespace) -> list[list[str]]:
     """What is measured beside one another: those of the tables' last five columns; without words where the program isn't there."""
     printing = [[said.binlog, "--no-defaults", how, *source.logs()] if said.binlog else [] for how in ("-v", "-vv")]
-    return [source.transcribe(said.program), source.transcribe(said.program, "--after", front), *printing, source.record()]
+    return [source.transcribe(said.program), source.transcribe(said.program, "--after", front), *printing, source.record(said.program)]
 
 
 def shapes(server: Server, said: argparse.Namespace) -> None:
-    """With a check that the feed, the one that was gone on with, and the recorder's have the same rows."""
+    """With a check that the feed, the one that was gone on with, and record/feed's have the same rows."""
     head("| Log | MB | The feed's MB | Rows | transcribe | --after | binlog -v | binlog -vv | record/feed |")
     missed = []
     for name, shape in SHAPES.items():

@@ -1,7 +1,7 @@
 #!/usr/bin/python3
 """What record/feed takes of the processor and of memory, beside mariadb-binlog -vv over the same log.
 
-usage: bench/record/measure.py [--binlog PROGRAM] [--rows N] [--rounds N] [SHAPE ..]
+usage: bench/record/measure.py [--program VREPL] [--binlog PROGRAM] [--rows N] [--rounds N] [SHAPE ..]
 
 A private server writes a log of each shape; then both read it, each N rounds, in turns. Printed of each shape: the log's bytes,
 the processor's seconds of both (the least of the rounds, those of the system among them), their ratio, megabytes of log a second,
@@ -22,7 +22,7 @@ from record.server import Server  # noqa: E402
 
 PYCACHE = tempfile.mkdtemp(prefix="vrepl-record-")
 NARROW = "id INT PRIMARY KEY, v VARCHAR(20), n INT"
-WIDE = ("id BIGINT PRIMARY KEY, a INT, b VARCHAR(60), c DATETIME, d DECIMAL(12,2), e TINYINT, f VARCHAR(255), g BIGINT, h DATE, i CHAR(10), j DOUBLE, k TIMESTAMP(3),"
+WIDE = ("id BIGINT PRIMARY KEY, a INT, b VARCHAR(60), c DATETIME, d DECIMAL(12,2), e TINYINT, f VARCHAR(255), g BIGINT, h DATE, i CHAR(10), j DECIMAL(20,9), k TIMESTAMP(3),"
         " l ENUM('one','two','three'), m TEXT")  # fmt: skip
 WIDE_ROW = ("seq, seq % 1000, CONCAT('name of ', seq), '2024-02-03 04:05:06', seq / 7, seq % 100, REPEAT('f', seq % 80), seq * 1000003, '2024-02-03', 'ten', seq / 3,"
             " '2024-02-03 04:05:06.789', ELT(1 + seq % 3, 'one', 'two', 'three'), REPEAT('m', seq % 200)")  # fmt: skip
@@ -55,14 +55,14 @@ def taken(words: list[str]) -> tuple[float, int]:
     return seconds, memory
 
 
-def measure(name: str, binlog: str, rows: int, rounds: int) -> None:
+def measure(name: str, program: str, binlog: str, rows: int, rounds: int) -> None:
     columns, row, together, part = SHAPES[name]
     with Server() as server:
         server.sql("SET GLOBAL max_binlog_size=1073741824")
         fill(server, columns, row, together, int(rows * part), name.startswith("updates"))
         logs = [line.split() for line in server.sql("SHOW BINARY LOGS").stdout.decode().splitlines()]
         size, feed = sum(int(line[1]) for line in logs), os.path.join(server.folder, "b.feed")
-        record = [os.path.join(ROOT, "record/feed"), "--by-recorder", "--socket", server.socket, "--user", "root", "--shard", "-", "--out", feed]
+        record = [os.path.join(ROOT, "record/feed"), "--program", program, "--socket", server.socket, "--user", "root", "--shard", "-", "--out", feed]
         files = [os.path.join(server.folder, "data", line[0]) for line in logs]
         ours, theirs, most = [], [], 0
         for _ in range(rounds):
@@ -79,6 +79,7 @@ def measure(name: str, binlog: str, rows: int, rounds: int) -> None:
 
 def main() -> None:
     parser = argparse.ArgumentParser(description=__doc__, formatter_class=argparse.RawDescriptionHelpFormatter)
+    parser.add_argument("--program", default=os.path.join(ROOT, "vrepl"), metavar="VREPL")
     parser.add_argument("--binlog", default="mariadb-binlog")
     parser.add_argument("--rows", type=int, default=300_000)
     parser.add_argument("--rounds", type=int, default=3)
@@ -86,7 +87,7 @@ def main() -> None:
     said = parser.parse_args()
     said.binlog = shutil.which(said.binlog) or parser.error(f"no program {said.binlog}")
     for name in said.shapes or SHAPES:
-        measure(name, said.binlog, said.rows, said.rounds)
+        measure(name, os.path.abspath(said.program), said.binlog, said.rows, said.rounds)
     shutil.rmtree(PYCACHE)
 
 

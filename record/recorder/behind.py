@@ -5,7 +5,7 @@ from collections.abc import Iterator
 from dataclasses import replace
 from itertools import chain
 
-from .catalogue import Table
+from .catalogue import Name, Table
 from .feedfile import FeedFile
 from .files import held_path, open_file, writing
 from .groups import Change, Groups
@@ -14,7 +14,6 @@ from .note import Note, groups_between
 from .oldfeed import OldFeed
 from .position import Position
 from .snapshot import Snapshot, in_portions
-from .statements import Name
 from .stop import ANEW, Stop
 from .wire import change_bytes
 

@@ -4,11 +4,9 @@ from dataclasses import dataclass
 
 from pymysql import Connection
 
-from .cells import Printing
 from .kinds import KEYS, WHOLE, Kind, kind_of
 from .labels import read_labels
 from .server import ask
-from .statements import Name
 from .stop import ANEW, Stop
 
 _COLUMNS = """SELECT column_name, data_type, CONVERT(column_type USING ascii), character_set_name, collation_name, numeric_precision, numeric_scale,
@@ -16,8 +14,25 @@ _COLUMNS = """SELECT column_name, data_type, CONVERT(column_type USING ascii), c
 _KEY = """SELECT column_name, sub_part FROM information_schema.statistics
     WHERE table_schema=%s AND table_name=%s AND index_name='PRIMARY' ORDER BY seq_in_index"""
 _HASHED = "SELECT index_name FROM information_schema.statistics WHERE table_schema=%s AND table_name=%s AND index_type='HASH'"
+Name = tuple[str, str]
+"""A table's schema and name."""
 BYTE_ORDERED = ("ascii", "utf8mb3", "utf8mb4", "latin1")
 """Character sets of which a _bin collation is the order of bytes."""
+
+
+@dataclass(frozen=True)
+class Printing:
+    """How the server prints a column, as far as it isn't said by the values."""
+
+    kind: Kind
+    width: int = 0
+    """Of ZEROFILL the characters at least, of BINARY the bytes, of YEAR the digits."""
+    places: int | None = None
+    """Of a FLOAT or DOUBLE the digits behind the point, as of FLOAT(7,2), where they were said."""
+    labels: tuple[bytes, ...] = ()
+    """Of ENUM and SET."""
+    comma: bytes = b","
+    """What parts the labels of a SET, in its character set."""
 
 
 @dataclass(frozen=True)
@@ -103,6 +118,10 @@ def without_skipped(connection: Connection, names: list[Name]) -> tuple[list[Nam
     if len(skipped) == len(names):
         raise Stop("no table is left", "", "; ".join(lines))
     return [name for name in names if name not in skipped], lines
+
+
+def has_rows(connection: Connection, table: Table) -> bool:
+    return bool(ask(connection, f"SELECT 1 FROM {quoted(table.schema)}.{quoted(table.name)} LIMIT 1"))
 
 
 def _table(connection: Connection, schema: str, name: str, has_labels: bool) -> Table:

@@ -126,7 +126,7 @@ class Feed:
         except ValueError as fault:
             raise Stop(f"a position that stream {self._stream}'s server doesn't have", f"({text[:200]})", str(fault)) from None
         wanted = Wanted(login, note.shard, self.path, [split_name(name) for name in note.tables], append=True, until=until,
-                        by_log=self._asked.program, tells=False)  # fmt: skip
+                        program=self._asked.program)  # fmt: skip
         try:
             record(wanted)
         except Taken:

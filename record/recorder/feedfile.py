@@ -7,14 +7,17 @@ ones are held to what the log says again, and stay where that is the same, byte 
 """
 import os
 from collections.abc import Iterable
-from contextlib import suppress
+from contextlib import ExitStack, suppress
 from tempfile import SpooledTemporaryFile
+from typing import BinaryIO
 
+from .catalogue import Table
 from .ending import Held, tell
 from .files import PIECE, is_at, kind_at, new_file, not_written, open_file, put, write_at, writing
 from .groups import Change, Groups
 from .messages import Message, pieces_of
 from .note import Note, groups_between, note_path
+from .program import beginning
 from .stop import ANEW, Stop
 
 MOST = 2**31 - 1
@@ -77,11 +80,22 @@ class FeedFile:
         """Whether the file is in its place."""
         return self._own == ""
 
-    def with_all(self) -> str:
-        """The name of the file that has all groups of a feed that isn't in its place yet, or that has been put whole."""
+    @property
+    def told(self) -> set[str]:
+        """The tables whose columns it has."""
+        return self._groups.told
+
+    def whole(self, opened: ExitStack) -> BinaryIO:
+        """A file, open, that has all groups, those that are kept aside among them."""
         with writing(self.path):
+            if self.is_there and self._kept < self.size:
+                self._aside.rollover()
             self._aside.flush()
-        return self._own or self.path
+            there = opened.enter_context(os.fdopen(open_file(self._own or self.path, os.O_RDONLY), "rb"))
+            size = os.fstat(there.fileno()).st_size
+        if self.is_there and self._kept < self.size:
+            return opened.enter_context(beginning(there, self._kept, self._aside))
+        return there if size == self.size else opened.enter_context(beginning(there, self.size))
 
     @property
     def waits(self) -> bool:
@@ -98,15 +112,10 @@ class FeedFile:
         for message in self._groups.group(changes, position, time):
             self.message(message)
 
-    def has_left(self, position: str) -> bool:
-        """Whether a killed writer left a group of this position alone here; it stays."""
-        if not self.is_beyond:
-            return False
-        [data] = self._groups.group([], position, 0)
-        found = self._finds(data, len(data))
-        if found:
-            self.message(data)
-        return found
+    def columns(self, tables: Iterable[Table], position: str) -> None:
+        """A position, and before it the columns of tables that the feed hasn't told."""
+        for message in self._groups.columns(tables, position):
+            self.message(message)
 
     def _finds(self, message: Message, size: int) -> bool:
         at = self._kept

@@ -3,18 +3,23 @@
 The feed and its note are what holds: a copy is cut at the note's place before it grows on, and is made anew where it doesn't
 reach that place, or is another log's. It is synced before a note tells of it. What no `transcribe` behind the feed wants any
 more is taken away once the note is in its place.
+
+The first copy may begin amid its log, behind a snapshot or where a feed ends: it has the log's own first event, a list of the
+transactions that are before that place, as each log begins with one, and the log's bytes from there on.
 """
 import os
+import struct
+import zlib
+from collections.abc import Callable
 from contextlib import suppress
 from tempfile import TemporaryFile
 from typing import BinaryIO, NamedTuple
 
-from .cells import Bytes
-from .events import HEADER, GtidEvent, LogEvent
+from .events import HEADER, Bytes, GtidEvent, LogEvent
 from .files import PIECE, open_file, writing
 from .position import Gtid, Position, Until, domain_uuid
-from .server import Place
-from .stop import BEHIND, WITHOUT, Stop
+from .server import CRC32, Place
+from .stop import BEHIND, Stop
 
 MAGIC = b"\xfebin"
 FIRST = len(MAGIC)
@@ -25,6 +30,11 @@ BUFFER = 2**20
 LEANS = ".leans"
 """The end of the name of an empty file beside a copy that may need the one before it."""
 MOST_MARKS = 2**16
+FARTHEST = 2**32
+"""The place in a log from which on a copy doesn't begin amid it: its events don't say where they end."""
+LISTED = struct.Struct("<IIQ")
+"""How a list of transactions has each domain's last one: its domain, its server, and its number."""
+SUM = struct.Struct("<I")
 PREPARED, ENDED = 0x40, 0x80
 """Of a transaction's flags: an XA transaction is prepared by it, or ended."""
 ITS_FLAGS = HEADER.size + 12
@@ -53,24 +63,29 @@ class Copies:
 
     def __init__(self, feed: str, place: Place, begun: int | None, position: Position, prepared: set[bytes], until: Until | None) -> None:
         self.folder, self._file, self._log, self._size, self._is_whole = folder_of(feed), None, "", 0, False
-        self._place, self._until = place, until
+        self._lacks = 0
+        """How many bytes of its log the copy that is open lacks."""
+        self._place, self._before, self._until = place, Position(position.last), until
         self.begun = {place.log: begun}
         self._seen, self.prepared, self.marks = Position(position.last), set(prepared), []
+        self.passed: dict[int, Gtid] = {}
+        """Of each domain the last transaction that was copied and is the feed's already."""
         self.thinned: dict[int, Gtid] = {}
         """Of each domain the last transaction before the marked ones whose mark was left out: the feed has to reach it."""
         self.is_done = False
         """Whether the position is reached up to which is copied."""
 
-    def begin(self, first: Place, wants_all: bool) -> Place:
-        """Where the server's log is to be copied from: behind the copies that are there, or else its `first` file, where all of
-        them are wanted, or that of the place."""
+    def begin(self, whole: Place | None, prepared: Callable[[], Place | None], is_anew: bool) -> Place:
+        """Where the server's log is to be copied from: behind the copies that are there, unless they are made anew, or else from the
+        place on from which `whole` files are wanted, or where one begins that has what is `prepared`, or from that where the feed ends."""
+        wants_all = whole is not None
         with writing(self.folder):
             if os.path.islink(self.folder):
                 raise Stop("a link", f"at {self.folder}", "let a folder be there, or nothing")
             os.makedirs(self.folder, 0o700, exist_ok=True)
             number, names = number_of(self._place.log), self._names()
-            is_there = self._place.log in names and self._opens()
-            if wants_all and number_of(names[0] if names else self._place.log) > number_of(first.log):
+            is_there = not is_anew and self._place.log in names and self._opens()
+            if is_there and wants_all and (number_of(names[0]) > number_of(whole.log) or self._lacking(names[0])):
                 is_there = False
             wants_all = wants_all or self._leans(self._place.log)
             for name in names:
@@ -79,8 +94,21 @@ class Copies:
         if is_there:
             return self._place
         self.close()
-        self._log = ""
-        return first if wants_all else Place(self._place.log, FIRST)
+        self._log, self._size = "", 0
+        return whole or prepared() or (self._place if self._place.offset < FARTHEST else Place(self._place.log, FIRST))
+
+    def _lacking(self, log: str) -> int:
+        """How many bytes of its log a copy lacks: where it begins amid it the list says where that ends in the log."""
+        with open(os.path.join(self.folder, log), "rb") as file:
+            file.seek(FIRST)
+            behind = FIRST
+            for _ in range(2):
+                if len(head := file.read(HEADER.size)) < HEADER.size:
+                    return 0
+                _time, kind, _server, size, end, _flags = HEADER.unpack(head)
+                behind += size
+                file.seek(behind)
+        return end - behind if kind == LogEvent.GTID_LIST else 0
 
     def _leans(self, log: str) -> bool:
         """Whether a copy's log began while an XA transaction was prepared, so that it may end what an earlier one has."""
@@ -102,19 +130,20 @@ class Copies:
         """Opens the copy of the place's log, and cuts it there, if it is of that log."""
         file = os.fdopen(open_file(os.path.join(self.folder, self._place.log), os.O_RDWR), "r+b", BUFFER)
         head = file.read(FIRST + HEADER.size)
-        is_its = len(head) == FIRST + HEADER.size and head.startswith(MAGIC) and os.fstat(file.fileno()).st_size >= self._place.offset > FIRST
+        lacks = self._lacking(self._place.log)
+        is_its = len(head) == FIRST + HEADER.size and head.startswith(MAGIC) and os.fstat(file.fileno()).st_size >= self._place.offset - lacks > FIRST
         time, kind, *_ = HEADER.unpack(head[FIRST:]) if is_its else (0, 0)
         if not is_its or kind != LogEvent.FORMAT_DESCRIPTION or time != self.begun[self._place.log]:
             file.close()
             return False
-        file.truncate(self._place.offset)
-        self._is(file, self._place.log, self._place.offset)
+        file.truncate(self._place.offset - lacks)
+        self._is(file, self._place.log, self._place.offset, lacks)
         self._say_in_use(True)
         return True
 
-    def _is(self, file, log: str, size: int) -> None:
-        self._file, self._log, self._size, self._is_whole = file, log, size, False
-        file.seek(size)
+    def _is(self, file, log: str, size: int, lacks: int = 0) -> None:
+        self._file, self._log, self._size, self._lacks, self._is_whole = file, log, size, lacks, False
+        file.seek(size - lacks)
 
     def _say_in_use(self, is_so: bool) -> None:
         self._file.flush()
@@ -127,13 +156,17 @@ class Copies:
             if self.begun.get(log) not in (None, time):
                 raise Stop("another log than the feed's", f"in {log}, which was begun anew", BEHIND)
             self.begun[log] = time
+            if not self._file and end == 0 and self._place.offset > FIRST:
+                # (so a server begins where it is asked for what is amid a log)
+                with writing(self.folder):
+                    self._begin_amid(log, event)
         if kind == LogEvent.HEARTBEAT or end == 0 or self.is_done:
             return kind
         with writing(self.folder):
             if kind == LogEvent.FORMAT_DESCRIPTION and log != self._log:
                 self._begin_log(log)
             if log != self._log or end != self._size + len(event) & 0xFFFFFFFF:
-                raise Stop("a log that isn't sent as its file has it", f"at {log}:{end}", WITHOUT)
+                raise Stop("a log that isn't sent as its file has it", f"at {log}:{end}", BEHIND)
             if kind == LogEvent.GTID:
                 self._mark(event, server)
                 if self.is_done:
@@ -145,9 +178,25 @@ class Copies:
                 self._say_in_use(True)
         return kind
 
+    def _begin_amid(self, log: str, first: Bytes) -> None:
+        """Begins a copy at the place: with the log's first event, and the transactions that are before the place."""
+        self._begin_log(log)
+        # (the first event has a sum in every log, which the server doesn't make anew where the others have none)
+        head = bytearray(first[:-SUM.size])
+        head[FLAGS - FIRST] &= ~IN_USE
+        self._file.write(_summed(head))
+        last = sorted(self._before.last.items())
+        body = struct.pack("<I", len(last)) + b"".join(LISTED.pack(domain, gtid.server, gtid.sequence) for domain, gtid in last)
+        is_summed = head[-1] == CRC32
+        time, _kind, server, *_ = HEADER.unpack_from(head)
+        listed = HEADER.pack(time, LogEvent.GTID_LIST, server, HEADER.size + len(body) + SUM.size * is_summed, self._place.offset, 0) + body
+        self._file.write(_summed(listed) if is_summed else listed)
+        self._size, self._lacks = self._place.offset, self._place.offset - self._file.tell()
+        self._say_in_use(True)
+
     def _begin_log(self, log: str) -> None:
         if os.path.basename(log) != log or number_of(log) < 0:
-            raise Stop("a log's name that no file has", f"({log})", WITHOUT)
+            raise Stop("a log's name that no file has", f"({log})", "name the server's logs NAME.NUMBER (log_bin)")
         if self._file and self._is_whole:
             self._say_in_use(False)
         self.sync()
@@ -163,6 +212,7 @@ class Copies:
         read = GtidEvent.read(event[HEADER.size:])
         gtid = Gtid(read.domain, server, read.sequence)
         if self._seen.goes_back(gtid):
+            self.passed[gtid.domain] = gtid
             return
         if self._looks_done():
             return
@@ -195,7 +245,7 @@ class Copies:
         for gtid in self.thinned.values():
             position.add(gtid)
         self.thinned.clear()
-        lacks = (number for number, mark in enumerate(self.marks) if sets.get(domain_uuid(mark.gtid.domain), 0) < mark.gtid.sequence)
+        lacks = (number for number, mark in enumerate(self.marks) if sets.get(domain_uuid(mark.gtid.domain, position.turn), 0) < mark.gtid.sequence)
         count = next(lacks, len(self.marks))
         for mark in self.marks[:count]:
             position.add(mark.gtid)
@@ -206,7 +256,7 @@ class Copies:
         """The beginning of a copy, up to a place, as a file of its own that a server still writes."""
         part = TemporaryFile(dir=self.folder)  # noqa: SIM115
         with writing(self.folder), open(os.path.join(self.folder, before.log), "rb") as whole:
-            left = before.offset
+            left = before.offset - self._lacking(before.log)
             while left and (piece := whole.read(min(PIECE, left))):
                 part.write(piece)
                 left -= len(piece)
@@ -214,10 +264,15 @@ class Copies:
             _say_in_use(part.fileno(), True)
         return part
 
-    def size(self) -> int:
-        """The bytes of all copies."""
-        with writing(self.folder):
-            return sum(os.stat(path).st_size for path in self.paths())
+    def place_of(self, path: str, byte: int) -> Place | None:
+        """The place in the log of a byte of a copy; None of what is no copy."""
+        folder, log = os.path.split(path)
+        return Place(log, byte + self._lacking(log)) if folder == self.folder and log in self._names() else None
+
+    @property
+    def has_prepared(self) -> bool:
+        """Whether an XA transaction is prepared where the copies end, or may be: of a last one that ends it they may have a part."""
+        return bool(self.prepared or self.marks and self.marks[-1].prepared)
 
     def flush(self) -> None:
         with writing(self.folder):
@@ -243,6 +298,11 @@ class Copies:
             with suppress(OSError):
                 self._file.close()
         self._file = None
+
+
+def _summed(event: Bytes) -> bytes:
+    """An event with its checksum."""
+    return bytes(event) + SUM.pack(zlib.crc32(event))
 
 
 def _say_in_use(file: int, is_so: bool) -> None:

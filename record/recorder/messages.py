@@ -96,6 +96,16 @@ def cells_of(row, count: int | None = None) -> Row:
     return tuple(cells)
 
 
+def rows_of(message: bytes) -> Iterator[tuple[str, Row]]:
+    """The rows that a message behind its length says, before a change and behind it, each with its table."""
+    [(start, end)] = frames(message)
+    for event in __getattr__("Response").FromString(message[start:end]).events:
+        for change in event.row_event.row_changes:
+            for row in change.before, change.after:
+                if row.lengths:
+                    yield event.row_event.table_name, cells_of(row)
+
+
 def fields(data: bytes) -> Iterator[tuple[int, int | bytes]]:
     """The fields of a message: their numbers, and what they have. ValueError or IndexError where the bytes are none."""
     at = 0

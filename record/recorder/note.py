@@ -53,8 +53,8 @@ class Note:
     keys: dict[str, list[str]] = field(default_factory=dict)
     """By SCHEMA.TABLE the columns of its primary key, in key order, where they are known."""
     recorder: str | None = None
-    """The transactions up to which the feed has rows of a snapshot or of the recorder, where that is known; behind them it has what
-    the program read."""
+    """The transactions up to which the feed has rows of a snapshot, or those of a recorder that read the log itself, where that is
+    known; behind them it has what the program read."""
 
     @classmethod
     def read(cls, path: str) -> "Note":
@@ -221,22 +221,8 @@ def last_message(file: int, size: int) -> int:
 
 
 def with_flavour(position: str) -> str:
-    """A position as the recorder writes it; the program leaves the flavour out."""
+    """A position as the note has it; the program leaves the flavour out."""
     return position if "/" in position else f"MySQL56/{position}"
-
-
-def has_left_by_recorder(file: int, note: Note) -> bool:
-    """Whether the first whole group that an open feed has behind its note's length is the recorder's, whose positions have a flavour."""
-    start = note.size
-    for end in ends(file, start, os.fstat(file).st_size):
-        try:
-            position = messages.position_in(events_of(file, start, end))
-        except (ValueError, IndexError):
-            return False
-        if position is not None:
-            return "/" in position
-        start = end
-    return False
 
 
 def position_of(file: int, start: int, end: int) -> str | None:

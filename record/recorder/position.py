@@ -35,6 +35,11 @@ def turn_of(uuid: str) -> int | None:
     return None if number == 1 else max(0, number - 1)
 
 
+def turned(uuid: str, turn: int) -> str:
+    """The uuid of a domain's in another turn."""
+    return domain_uuid(int(uuid[-12:], 16), turn)
+
+
 class Gtid(NamedTuple):
     """A transaction's name, as MariaDB prints it: domain-server-sequence."""
 
@@ -56,6 +61,11 @@ class Gtid(NamedTuple):
 def sets_of(text: str) -> dict[str, int]:
     """By uuid the last number of a feed's position. ValueError where it isn't one."""
     return {uuid: found[-1][1] for uuid, found in GtidSet.read(text).intervals.items() if found}
+
+
+def text_of(sets: dict[str, int]) -> str:
+    """The feed's text of a position, of the last number by uuid."""
+    return "MySQL56/" + ",".join(f"{uuid}:1-{number}" if number > 1 else f"{uuid}:1" for uuid, number in sorted(sets.items()))
 
 
 class Position:
@@ -115,11 +125,8 @@ class Position:
         return text
 
     def _whole_text(self) -> str:
-        sets = [(domain_uuid(domain, self.turn), gtid.sequence) for domain, gtid in self.last.items()]
-        sets += self.past.items()
-        if self.snapshot:
-            sets.append((SNAPSHOT_UUID, self.snapshot))
-        return "MySQL56/" + ",".join(f"{uuid}:1-{number}" if number > 1 else f"{uuid}:1" for uuid, number in sorted(sets))
+        sets = {domain_uuid(domain, self.turn): gtid.sequence for domain, gtid in self.last.items()} | self.past
+        return text_of(sets | ({SNAPSHOT_UUID: self.snapshot} if self.snapshot else {}))
 
 
 @dataclass(frozen=True)

@@ -5,7 +5,7 @@ import re
 import signal
 import subprocess
 from collections.abc import Iterator
-from contextlib import contextmanager
+from contextlib import ExitStack, contextmanager
 from dataclasses import dataclass
 from typing import BinaryIO
 
@@ -62,12 +62,15 @@ def _ended(status: int) -> str:
 
 
 @contextmanager
-def beginning(file: BinaryIO, size: int) -> Iterator[BinaryIO]:
-    """A pipe that has so many bytes of an open file, from its beginning on."""
+def beginning(file: BinaryIO, size: int, behind: BinaryIO | None = None) -> Iterator[BinaryIO]:
+    """A pipe that has so many bytes of an open file, from its beginning on, and all of another one behind them."""
     file.seek(0)
-    with subprocess.Popen(["head", "-c", str(size)], stdin=file, stdout=subprocess.PIPE, stderr=subprocess.DEVNULL) as head:
-        try:
-            yield head.stdout
-        finally:
-            head.stdout.close()
-            head.kill()
+    with ExitStack() as begun:
+        def piped(words: list[str], stdin: BinaryIO, *passed: int) -> BinaryIO:
+            made = begun.enter_context(subprocess.Popen(words, stdin=stdin, stdout=subprocess.PIPE, stderr=subprocess.DEVNULL, pass_fds=passed))
+            begun.callback(made.kill)
+            begun.callback(made.stdout.close)
+            return made.stdout
+
+        pipe = piped(["head", "-c", str(size)], file)
+        yield piped(["cat", "-", name_of(behind)], pipe, behind.fileno()) if behind else pipe

@@ -1,41 +1,42 @@
-"""A recording: settings and tables are checked, the rows of a snapshot and then the log's are read, and they
-take their place in the feed together, when the log was read to its end; then, where that is wanted, each
-transaction as it commits (`forever`)."""
+"""A recording: settings and tables are checked, the rows of a snapshot are read here and then the log's by the program's
+`transcribe`, of copies of the log's files (`logcopies`), and they take their place in the feed together, when the log was read
+to its end; then, where that is wanted, each transaction as it commits (`forever`)."""
 import os
-import sys
-import time
 from collections.abc import Iterator
 from contextlib import ExitStack, closing
-from dataclasses import dataclass, replace
+from dataclasses import dataclass
 from itertools import chain
+from tempfile import TemporaryFile
+from typing import BinaryIO
 
-from .catalogue import Table, read_tables
+from . import messages
+from .catalogue import Name, Table, has_rows, read_tables
 from .elsewhere import Elsewhere
-from .ending import Ended, Held, Last, show, tell
-from .events import Event, LogEvent
+from .ending import Ended, Held, Last, tell
+from .events import LogEvent
 from .feedfile import FeedFile, check_free
-from .groups import Change, Changes, Groups
+from .groups import Groups
 from .locks import check_there, locked
-from .note import Note, check_end, note_path
+from .logcopies import Copies
+from .messages import Message, Stored, rows_of
+from .note import OF_ROWS, Note, check_end, ends, events_of, note_path
+from .plans import Plan, printed
 from .position import SNAPSHOT_UUID, Position, Until, domain_uuid, sets_of
-from .prepared import prepared_at
-from .program import Program
-from .server import Login, Place, check_schemas, check_settings, end_place, events, first_place, gtids_at, log_sizes, server_id, why_unread
-from .snapshot import Snapshot
-from .statements import Name
-from .stop import AGAIN, ANEW, BEHIND, Beyond, Lost, Refused, Stop, Untold
-from .transactions import Transaction, Transactions
+from .prepared import first_prepared, prepared_at
+from .program import Program, name_of
+from .progress import Progress
+from .refusals import check_told, told_refusal
+from .server import Login, Place, check_schemas, check_settings, copied, end_place, first_place, gtids_at, log_sizes, server_id, why_unread
+from .snapshot import Snapshot, check_key
+from .spelling import Spelling
+from .stop import AGAIN, ANEW, BEHIND, Beyond, Lost, Prepared, Refused, Stop
 from .untold import check_names, told_of
+from .wire import FIELDS, EventType
 
-NO_GTIDS = b"\0\0\0\0"
-"""How a GTID list begins that has none: it stands at a log's beginning, and lists what is before it."""
-LOOKS = 16
-"""At each of so many transactions it is looked how far a recording is."""
-UNKNOWN = {*range(51, 58), 72, 148, 149, 151, 152, 153, 156, 159}
-"""The numbers by which the program refuses what the recorder may know: tables that no workflow file has, memory, columns, types,
-statements, packed events, XA transactions that no copy prepares, and tables that none makes."""
-MINUTE = 60
-"""The seconds between two lines that say how far a recording is."""
+LARGE = 2**16
+"""The bytes of a message from which on it isn't held in memory."""
+OPEN = 156
+"""How the program refuses logs at whose end an XA transaction is prepared that changes the tables, among others."""
 
 
 @dataclass(frozen=True)
@@ -56,26 +57,8 @@ class Wanted:
     """Whether the rows of a snapshot stand between the feed that is gone on with and the log behind it."""
     keyspace: str | None = None
     """Of which positions are to be VGTIDs; else they are GTIDs, or what the feed that is gone on with has."""
-    by_log: Program | None = None
-    """The program that reads the log, where it can; without one it is read here."""
-    by_log_alone: bool = False
-    """Whether nothing is read here in its place."""
-    tells: bool = True
-    """Whether a line says what is read here in its place."""
-
-    def here(self, until: Until | None = None) -> "Wanted":
-        """The same, read here; up to another position, where one is said."""
-        return replace(self, by_log=None, until=until or self.until)
-
-    def is_handed_over(self, refused: Refused) -> bool:
-        """Whether the log is read here where the program refuses it: what may be only a statement, an event or a type that it doesn't
-        know, or a program that can't be run. The recorder stops by itself at what no feed can say."""
-        return self.by_log is not None and not self.by_log_alone and (refused.number is None or refused.number in UNKNOWN)
-
-    def tell(self, why: str) -> None:
-        """Says that the log is read here, and why."""
-        if self.tells:
-            tell(f"feed: {why}: the recorder reads the log in the program's place")
+    program: Program = Program()
+    """The one that reads the log."""
 
 
 @dataclass
@@ -85,7 +68,8 @@ class Start:
     place: Place
     position: Position
     filled: set[Name]
-    prepared: dict[bytes, Changes | None]
+    prepared: set[bytes]
+    """The XA transactions that are prepared there, and change none of the tables."""
     written: str = ""
     """The last position that the feed has."""
     begun: int | None = None
@@ -94,76 +78,19 @@ class Start:
     """Where it is another server's log."""
 
 
-class Progress:
-    """How far a recording is, on standard error: a bar where that is a terminal, else a line a minute."""
-
-    def __init__(self, sizes: dict[str, int], start: Place, end: Place) -> None:
-        self._is_seen = bool(sys.stderr) and sys.stderr.isatty()
-        logs = list(sizes)
-        between = logs[logs.index(start.log):logs.index(end.log) + 1] if start.log in sizes and end.log in sizes else []
-        self._before = {log: sum(sizes[one] for one in between[:at]) for at, log in enumerate(between)}
-        self._start, self._whole = start.offset, max(1, sum(sizes[log] for log in between) - start.offset)
-        self._last, self._told_at = -1, time.monotonic()
-
-    def at(self, place: Place, groups: int) -> None:
-        part = min(1000, 1000 * (self._before.get(place.log, 0) + place.offset - self._start) // self._whole)
-        if self._is_seen and part != self._last:
-            self._last = part
-            show(f"\r[{'#' * (part // 40):25}] {part / 10:5.1f}% {place} {groups} groups")
-        elif not self._is_seen and time.monotonic() >= self._told_at + MINUTE:
-            self._told_at = time.monotonic()
-            tell(f"feed: {time.strftime('%Y-%m-%dT%H:%M:%SZ', time.gmtime())} {part / 10:.1f}% of the log read, at {place}; {groups} groups")
-
-    def close(self) -> None:
-        if self._is_seen and self._last >= 0:
-            show("\r\033[K")
-
-
 def record(wanted: Wanted) -> Note:
     """Writes a feed and its note, or goes on with them, up to where the log ends. Stops, and leaves what is there
     as it is, where the feed couldn't say what the tables are."""
     try:
-        with locked(wanted.out, lambda: check_free_or_there(wanted)):
-            try:
-                return _over_one_connection(wanted)
-            except Refused as refused:
-                if not wanted.is_handed_over(refused):
-                    raise
-                return _over_one_connection(wanted.here(), str(refused))
+        with locked(wanted.out, lambda: check_free_or_there(wanted)), ExitStack() as opened:
+            recording = Recording(wanted, opened)
+            recording.catch_up()
+            recording.check_whole()
+            with Last():
+                recording.put()
+            return recording.note
     except Ended as ended:
         raise Stop(f"ended by {ended}", "", left_as_it_was(wanted)) from None
-
-
-def _over_one_connection(wanted: Wanted, why: str = "") -> Note:
-    """Records; what it is read here for is told once that is done."""
-    with ExitStack() as opened:
-        recording = recording_of(wanted, opened)
-        recording.catch_up()
-        recording.check_whole()
-        with Last():
-            recording.put()
-            if why := why or recording.why_here:
-                wanted.tell(why)
-        return recording.note
-
-
-def recording_of(wanted: Wanted, opened: ExitStack) -> "Recording":
-    """What one connection records, by what is wanted to read the log, and can."""
-    if wanted.by_log is None:
-        return Recording(wanted, opened)
-    from .bylog import ByLog
-
-    try:
-        with ExitStack() as tried:
-            recording = ByLog(wanted, tried)
-            opened.push(tried.pop_all())
-            return recording
-    except Untold as untold:
-        if wanted.by_log_alone:
-            raise
-        recording = Recording(wanted.here(), opened)
-        recording.why_here, recording.is_here_once = untold.why, untold.is_once
-        return recording
 
 
 def left_as_it_was(wanted: Wanted) -> str:
@@ -177,10 +104,7 @@ def check_free_or_there(wanted: Wanted) -> None:
 
 class Recording:
     """What one connection records. `note` is the one of all groups; where an XA transaction is `pending` it can't be the
-    feed's. `is_done` where the position is reached up to which is recorded; `why_here` says why the log is read here where the
-    program was to read it, and `is_here_once` that it may go on by the program."""
-
-    why_here, is_here_once = "", False
+    feed's. `is_done` where the position is reached up to which is recorded."""
 
     def __init__(self, wanted: Wanted, opened: ExitStack) -> None:
         """What is opened is closed with `opened`."""
@@ -195,16 +119,22 @@ class Recording:
         self._snapshot = opened.enter_context(closing(Snapshot(wanted.login))) if with_snapshot else None
         self.tables = read_tables(self.connection, wanted.tables)
         check_names(self.tables, self._keyspace or "")
-        self._check_way(further)
+        check_told(self.connection, self.tables)
         self._further = [table for table in self.tables if table.full in further]
         start = self._start = self._first() if wanted.behind or not old else self._behind(old)
+        self._with_rows = set() if old or self._snapshot else {table.full for table in self.tables if has_rows(self.connection, table)}
+        """The tables of a feed that begins with the log that have rows before the log's end."""
         self._end = self._log_end()
         if not old or further:
             for line in told_of(self.connection, self._further or self.tables, wanted.shard):
                 tell(f"feed: warning: {line}")
         self.position, self.filled = start.position, start.filled
-        self.until, self.is_done = wanted.until, False
-        begun_with = {table.full for table in self.tables} if self._snapshot or old else set()
+        self.until, self.is_done, self.groups = wanted.until, False, 0
+        """`groups`: how many transactions of the recorded tables the program has read."""
+        self._place, self._begun, self._prepared = start.place, start.begun, start.prepared
+        self._recorder = start.position.gtids() if wanted.behind or not old else old.gtids if old.recorder is None else old.recorder
+        """Up to where the feed has what isn't the program's: a snapshot, or what a recorder read before."""
+        self._folder = os.path.dirname(wanted.out) or "."
         if wanted.behind:
             self._go_behind(old, opened)
         else:
@@ -213,12 +143,14 @@ class Recording:
                 self.feed = opened.enter_context(FeedFile(wanted.out, groups, old, wanted.over))
             self._check_left()
             self.written = self._write_snapshot() if wanted.from_snapshot else start.written
-        self._folder = os.path.dirname(wanted.out) or "."
-        self.reading = Transactions(self._tables_there(), self.position, self.filled, start.prepared, begun_with, self._folder)
-        self.note, self.pending = self._noted(start.place), None
+        self._tell_columns(self.tables if wanted.from_snapshot or wanted.behind else [])
+        self.copies = self._copies()
+        opened.callback(lambda: self.copies.close())
+        self._workflow = opened.enter_context(TemporaryFile(dir=self._folder))
+        self.note, self.pending = self._noted(), None
 
-    def _check_way(self, further: set[Name]) -> None:
-        """Stops where the log isn't to be read in this way; nothing is recorded yet."""
+    def _copies(self) -> Copies:
+        return Copies(self.wanted.out, self._place, self._begun, self.position, self._prepared, self.until)
 
     def _tables_there(self) -> list[Table]:
         """The tables that the feed has where the reading begins."""
@@ -228,12 +160,12 @@ class Recording:
         """The start of a new feed: the log's beginning, or the place of a snapshot."""
         snapshot = self._snapshot
         if snapshot is None:
-            return Start(first_place(self.connection), Position(), set(), {})
+            return Start(first_place(self.connection), Position(), set(), set())
         gtids = gtids_at(self.connection, snapshot.place)
         if gtids is None:
             raise Stop("the snapshot's place isn't in the log", f"at {snapshot.place}", why_unread(self.connection, snapshot.place) + AGAIN)
         prepared = prepared_at(self.wanted.login, self.connection, self.tables, snapshot.place)
-        return Start(snapshot.place, Position.read(gtids), set(), dict.fromkeys(prepared))
+        return Start(snapshot.place, Position.read(gtids), set(), prepared)
 
     def _old_note(self) -> Note:
         """The note of the feed that is gone on with."""
@@ -256,7 +188,7 @@ class Recording:
             if note.tables.get(name) != layouts.get(name) and (name in note.filled or name not in note.tables or name not in layouts):
                 raise Stop("another table, or other columns, than the feed has", f"in {name}", BEHIND)
         filled = {table.full for table in there if ".".join(table.full) in note.filled}
-        start = Start(note.place, note.reached(), filled, {bytes.fromhex(xa): None for xa in note.prepared}, note.position, note.begun)
+        start = Start(note.place, note.reached(), filled, {bytes.fromhex(xa) for xa in note.prepared}, note.position, note.begun)
         if note.server_id not in (None, self._server_id):
             start.elsewhere, start.begun = Elsewhere(self.connection, note.reached()), None
             start.place = start.elsewhere.start
@@ -305,110 +237,211 @@ class Recording:
         self._snapshot.close()
         return position.text() if position.snapshot else ""
 
+    def _tell_columns(self, tables: list[Table]) -> None:
+        """Has the feed say the columns of each of these tables, also of one without rows, whose first ones no log has to tell of then,
+        and the position that was reached, where no group of it has that: behind it a log is gone on with."""
+        untold = [table for table in tables if table.name not in self.feed.told]
+        if untold:
+            self.position.snapshot += 1
+        if untold or self.position.last and self.position.text() != self.written:
+            self.written = self.position.text()
+            self.feed.columns(untold, self.written)
+        self.filled |= {table.full for table in tables}
+
     def catch_up(self) -> None:
-        """Reads up to where the log ended. That no table was altered before is known only there, so nothing of it is in
-        the feed before it is `put`."""
+        """Copies the log up to where it ended, and has the program read the copies. That no table was altered before is known only
+        there, so nothing of it is in the feed before it is `put`."""
         if self.until and self.until.is_passed(self.position):
             raise Stop("the position is passed already", f"at {self.position.gtids()}", "--until takes one that is still to come")
-        self.look(self._start.place)
+        self._write_workflow(self._tables_there())
+        start = self._begin_copies(is_anew=bool(self.wanted.behind or self._start.elsewhere))
         if self._further:
-            self._read(self._snapshot.place)
-            self._add_further()
-        self._read(self._end)
-        if not self.is_done:
-            self.keep(self.reading.place)
-            self.finish()
+            self._copy(start, self._snapshot.place)
+            self._check_elsewhere()
+            self.transcribe()
+            start = self._add_further()
+        self._copy(start, self._end)
+        self._check_elsewhere()
+        self.transcribe()
+        before = sorted(self._with_rows - self.filled)
+        if before and not (self.pending or self.is_done):
+            raise Stop(f"a table that was there before the log, {'.'.join(before[0])},", f"before {self.copies.end}", ANEW)
 
-    def _read(self, end: Place) -> None:
-        """Reads the transactions up to a place."""
-        start = self.reading.place if self.reading.place.log else self._start.place
-        progress, groups, seen = Progress(log_sizes(self.connection), start, end), 0, 0
-        with closing(self.wanted.login.connect()) as stream:
-            read = events(stream, start)
-            elsewhere, self._start.elsewhere = self._start.elsewhere, None
-            if elsewhere:
-                read = elsewhere.unread(read)
-            for transaction in self.reading.read(self.checked(read), start, end):
-                if not self.is_done:
-                    self.take(transaction)
-                    if self.until:
-                        self.look(transaction.end)
-                    groups += bool(transaction.changes)
-                seen += 1
-                if seen % LOOKS == 1:
-                    progress.at(transaction.end, groups)
+    def _begin_copies(self, is_anew: bool) -> Place:
+        """Where the log is to be copied from. An XA transaction that ends in the copies has to be prepared in them."""
+        whole = self._place if self._start.elsewhere else first_place(self.connection) if self._wants_made else None
+        return self.copies.begin(whole, lambda: first_prepared(self.wanted.login, self.connection, self._prepared, self._place), is_anew)
+
+    @property
+    def _wants_made(self) -> bool:
+        """Whether the copies have to say that a table was made, before its first rows: one whose columns the feed hasn't told, where no
+        snapshot had it."""
+        return len(self.filled) < len(self._tables_there()) and not self.position.snapshot
+
+    def _check_elsewhere(self) -> None:
+        elsewhere, self._start.elsewhere = self._start.elsewhere, None
         if elsewhere:
-            elsewhere.check()
-        progress.close()
+            elsewhere.check(self.copies.passed)
 
-    def _add_further(self) -> None:
+    def _copy(self, start: Place, end: Place) -> None:
+        """Copies the log between two places."""
+        progress, seen = Progress(log_sizes(self.connection), start, end), 0
+        self.copies.look()
+        with closing(self.wanted.login.connect()) as stream:
+            for _ in self._copying(stream, start, end):
+                seen += 1
+                progress.at(self.copies.end, seen)
+                if self._is_at(end):
+                    break
+        progress.close()
+        self.copies.look()
+
+    def _is_at(self, end: Place) -> bool:
+        """Whether the copies have all up to a place."""
+        there = self.copies.end
+        return self.copies.is_done or there.log == end.log and there.offset >= end.offset
+
+    def copying(self, stream) -> Iterator[bool]:
+        """Copies what comes, for ever; at each transaction's beginning, and wherever nothing comes (so), something is answered."""
+        return self._copying(stream, self.copies.end, None)
+
+    def _copying(self, stream, start: Place, end: Place | None) -> Iterator[bool]:
+        if self.copies.is_done:
+            return
+        for log, event in copied(stream, start, end is None):
+            with Held():
+                kind = self.copies.take(log, event)
+            if kind == LogEvent.HEARTBEAT:
+                self.copies.look()
+            if kind in (LogEvent.GTID, LogEvent.HEARTBEAT) or end and kind != LogEvent.ROTATE and self._is_at(end):
+                yield kind == LogEvent.HEARTBEAT
+
+    def _write_workflow(self, tables: list[Table]) -> None:
+        """Writes the workflow by which the program reads the logs."""
+        self._spelling = Spelling(self._keyspace, self.wanted.shard, self.position, tables)
+        self._workflow.seek(0)
+        self._workflow.truncate()
+        self._workflow.write(printed(Plan(self._spelling.keyspace, tables, [self.wanted.shard], {}, []).workflow("")).encode())
+        self._workflow.flush()
+
+    def transcribe(self, is_last: bool = True, before: Place | None = None) -> None:
+        """Has the program read the copies, or what of them is `before` a place, and keeps what they have behind the feed; where it
+        `is_last` also how far they reach. An XA transaction that is prepared is pending."""
+        self.copies.flush()
+        self.pending = None
+        if (self.wanted.append or self.written) and not self.copies.marks and (self.written == self.position.text() or not self.copies.paths()):
+            if self.copies.end.log:
+                self._is_reached()
+            self.is_done = self.copies.is_done
+            return
+        with TemporaryFile(dir=self._folder) as made:
+            try:
+                self._answer(made, before)
+            except Refused as refused:
+                if refused.number != OPEN or not self.copies.has_prepared:
+                    raise told_refusal(refused, self.copies) from None
+                todo = f"XA COMMIT or XA ROLLBACK it (XA RECOVER lists it), and {AGAIN}"
+                self.pending = Prepared("an XA transaction is prepared", f"before {self.copies.end}", todo)
+                return
+            with Held():
+                self._keep(made, is_last)
+
+    def _answer(self, made: BinaryIO, before: Place | None) -> None:
+        """What the copies have behind the feed, before a place where one is said."""
+        with ExitStack() as opened:
+            words, files = ["transcribe", f"--shard={self.wanted.shard}", f"--schema={self.tables[0].schema}"], [self._workflow]
+            if self.feed.is_there or self.feed.size:
+                files.append(self._spelling.after(opened, self._folder) or self.feed.whole(opened))
+                words += ["--after", name_of(files[-1])]
+            logs = self.copies.paths(before)
+            if before:
+                files.append(opened.enter_context(self.copies.part(before)))
+                logs.append(name_of(files[-1]))
+            self.wanted.program.answer("the log's copies", *words, name_of(self._workflow), *logs, files=tuple(files), out=made)
+
+    def _keep(self, made: BinaryIO, is_last: bool) -> None:
+        """Keeps the program's messages for the feed."""
+        file, start, was, is_last = made.fileno(), 0, self.written, is_last or bool(self.copies.thinned)
+        for end in ends(file, 0, os.fstat(file).st_size):
+            read = events_of(file, start, end)
+            if len(read) > 1 or is_last:
+                try:
+                    self._check_keys(file, start, end)
+                except Stop:
+                    self._is_reached()
+                    raise
+                self.written = self._spelling.position(messages.position_in(read))
+                self.feed.message(self._spelling.message(made, start, end, read, self.written) or _message(made, start, end))
+                self.groups += len(read) > 1
+                told = {name for name in map(_told, read) if name}
+                self.feed.told.update(told)
+                self.filled |= {(self.tables[0].schema, name) for name in told}
+            start = end
+        self._is_reached()
+        if self.written != was and self.written != self.position.text():
+            raise Stop("the program's position is another one than the copies'", f"({self.written} and {self.position.text()})", "report it")
+        self.is_done = self.copies.is_done and not self.copies.marks
+        if self.is_done and self.feed.is_beyond:
+            raise Beyond("the feed goes on behind the position", f"in {self.wanted.out}", "append to it without --until")
+
+    def _check_keys(self, file: int, start: int, end: int) -> None:
+        """Stops at a key that its collation orders or compares otherwise than bytes: the program doesn't know collations."""
+        padded = {table.name: table for table in self.tables if any(table.columns[at].pads for at in table.key)}
+        if padded:
+            for name, row in rows_of(os.pread(file, end - start, start)):
+                if name in padded:
+                    check_key(padded[name], row, f"behind {self.position.gtids() or 'nothing'}")
+
+    def _is_reached(self) -> None:
+        """Makes the note of how far the feed has come in the copies."""
+        self._place, self._prepared = self.copies.reached(sets_of(self.written) if self.written else {}, self.position)
+        self._begun = self.copies.begun.get(self._place.log)
+        self.note = self._noted()
+
+    def up_to_fault(self) -> None:
+        """Keeps what the program reads before the transaction at which it finds a fault."""
+        marks, passed, least = list(self.copies.marks), 0, len(self.copies.marks)
+        while passed + 1 < least:
+            middle = (passed + least) // 2
+            passed, least = (middle, least) if self._passes(marks[middle].place) else (passed, middle)
+        if passed or self.copies.thinned and self._passes(marks[0].place):
+            self.transcribe(before=marks[passed].place)
+
+    def _passes(self, before: Place) -> bool:
+        """Whether the program reads what is before a place."""
+        with TemporaryFile(dir=self._folder) as made:
+            try:
+                self._answer(made, before)
+            except Stop:
+                return False
+        return True
+
+    def is_altered(self) -> bool:
+        """Whether a table of which the feed has no row has other columns now, and none of the others has."""
+        now = read_tables(self.connection, self.wanted.tables)
+        return now != self.tables and all(one == other for one, other in zip(now, self.tables) if other.full in self.filled)
+
+    def _add_further(self) -> Place:
         """The rows of the tables that the feed hasn't had, as one group at the snapshot's position; from there on they are recorded
-        with the others."""
+        with the others. Answers where the log is to be copied from."""
+        if self.pending:
+            raise self.pending
         if self.is_done:
             raise Stop("the position is before the rows of a further table", f"({self._further[0].name})", "record up to it without that table")
-        self.keep(self.reading.place)
         others = prepared_at(self.wanted.login, self.connection, self._further, self._snapshot.place)
         changes = self._snapshot.changes(self._further)
         if first := next(changes, None):
             self.position.snapshot += 1
             self.written = self.position.text()
-            self.feed.group(chain([first], self._filling(changes)), self.written)
-            self.filled.add(first.table.full)
+            self.feed.group(chain([first], changes), self.written)
+        self._further, self._place, self._prepared = [], self._snapshot.place, self._prepared | others
+        self._recorder = self.position.gtids()
         self._snapshot.close()
-        place, prepared, self._further = self.reading.place, dict.fromkeys(others) | self.reading.prepared, []
-        self.reading = Transactions(self.tables, self.position, self.filled, prepared, {table.full for table in self.tables}, self._folder)
-        self.reading.place = place
-
-    def _filling(self, changes: Iterator[Change]) -> Iterator[Change]:
-        for change in changes:
-            self.filled.add(change.table.full)
-            yield change
-
-    def checked(self, read: Iterator[Event]) -> Iterator[Event]:
-        """The events, as long as the log is the one that was meant: the feed's own, or one that begins with nothing before it."""
-        begun, behind = self.note.begun, bool(self.position.last)
-        unseen = {LogEvent.FORMAT_DESCRIPTION, LogEvent.GTID_LIST, LogEvent.GTID}
-        for event in read:
-            if event.kind in unseen:
-                if event.kind == LogEvent.FORMAT_DESCRIPTION and begun not in (None, event.time):
-                    raise Stop("another log than the feed's", f"in {event.log}, which was begun anew", BEHIND)
-                if event.kind == LogEvent.GTID_LIST and LogEvent.GTID in unseen and not behind and event.body[:4] != NO_GTIDS:
-                    raise Stop("the first log was purged", f"before {event.log}", ANEW)
-                unseen.discard(event.kind)
-            yield event
-            if event.kind == LogEvent.GTID:
-                break
-        yield from read
-
-    def take(self, transaction: Transaction) -> None:
-        """Appends a transaction to the groups."""
-        position = self.position.text()
-        if transaction.changes:
-            self.feed.group(transaction.changes, position, transaction.time)
-        elif not self.feed.has_left(position):
-            return
-        self.written = position
-
-    def look(self, place: Place) -> None:
-        """Ends here what is recorded, where that is the position up to which it is wanted."""
-        if self.until and self.until.is_reached(self.position):
-            self.is_done = True
-            self.keep(place)
-            self.finish()
-            if self.feed.is_beyond:
-                raise Beyond("the feed goes on behind the position", f"in {self.wanted.out}", "append to it without --until")
-
-    def keep(self, place: Place) -> None:
-        """Makes the note of the groups up to a place at which no transaction is open."""
-        self.note, self.pending = self._noted(place), self.reading.pending()
-
-    def finish(self) -> None:
-        """Has the groups say how far the note says that the log was read: where none says what the last transactions left
-        alone, a last one does."""
-        position = self.note.reached()
-        if position.last and position.text() != self.written:
-            self.feed.group([], position.text())
-            self.written = self.note.position = position.text()
+        self._tell_columns(self.tables)
+        self._write_workflow(self.tables)
+        self.copies.close()
+        self.copies = self._copies()
+        return self._begin_copies(is_anew=True)
 
     def check_begun(self) -> None:
         """Stops where what was read can't begin a feed."""
@@ -422,16 +455,35 @@ class Recording:
         if self.until and not self.is_done:
             raise Stop("the log doesn't reach the position", f"at {self.note.gtids or 'its beginning'}", f"{AGAIN} when the server has it, or with --forever")
 
-    def _noted(self, place: Place) -> Note:
+    def _noted(self) -> Note:
         position = self.position
         uuids = {str(domain): domain_uuid(domain, position.turn) for domain in position.last} | ({"snapshot": SNAPSHOT_UUID} if position.snapshot else {})
         tables = {".".join(table.full): table for table in self.tables}
-        return Note(self.version, self.wanted.shard, place, self.reading.begun or self._start.begun, position.gtids(), position.snapshot,
+        return Note(self.version, self.wanted.shard, self._place, self._begun, position.gtids(), position.snapshot,
                     self.written, self.feed.size, uuids, {name: table.layout() for name, table in tables.items()},
-                    sorted(".".join(name) for name in self.filled), [xa.hex() for xa in self.reading.prepared],
-                    server_id=self._server_id, keyspace=self._keyspace, turn=position.turn, past=dict(position.past), recorder=position.gtids(),
+                    sorted(".".join(name) for name in self.filled), [xa.hex() for xa in self._prepared],
+                    server_id=self._server_id, keyspace=self._keyspace, turn=position.turn, past=dict(position.past), recorder=self._recorder,
                     keys={name: table.key_names for name, table in tables.items()})  # fmt: skip
 
     def put(self) -> None:
-        """Puts the groups in their place in the feed, and the note in its."""
+        """Puts the groups in their place in the feed, and the note in its, behind which copies go that are wanted no more: those of logs
+        before that of the note, unless one has to tell that a table was made."""
+        if not self.pending:
+            self.copies.sync()
         self.feed.put(None if self.pending else self.note)
+        if not self.pending and not self._wants_made and self.note.position == self.note.reached().text():
+            self.copies.discard_before(self.note.place.log)
+
+    def lost(self) -> Lost:
+        return Lost("the server ended the log", f"behind {self.copies.end}", AGAIN)
+
+
+def _message(file: BinaryIO, start: int, end: int) -> Message:
+    """A message of the program's, between two places of an open file."""
+    return os.pread(file.fileno(), end - start, start) if end - start < LARGE else [Stored(file, start, end - start)]
+
+
+def _told(event: bytes) -> str:
+    """The table whose columns an event tells, or none."""
+    found = dict(messages.fields(event)) if not event.startswith(OF_ROWS) else {}
+    return dict(messages.fields(found[FIELDS]))[1].decode() if found.get(1) == EventType.FIELD else ""

@@ -16,8 +16,7 @@ import pymysql
 from pymysql.constants import COMMAND
 from pymysql.cursors import SSCursor
 
-from .cells import Bytes
-from .events import Event, LogEvent, event_of
+from .events import Bytes, Event, LogEvent, event_of
 from .stop import AGAIN, BEHIND, Lost, Stop
 
 WITHOUT_WAITING, WITH_TEXTS = 1, 2

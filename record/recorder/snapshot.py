@@ -5,19 +5,17 @@ log, and the variables binlog_snapshot_% say which, without a lock. XA COMMIT al
 are seen, so a snapshot that may stand in that moment is let go, and another one opened.
 """
 import time
-from collections.abc import Iterable, Iterator
+from collections.abc import Iterable, Iterator, Sequence
 from contextlib import closing
 
 from pymysql import Connection
 
 from .catalogue import Table, quoted
-from .events import LogEvent, QueryEvent
+from .events import Bytes, GtidEvent, LogEvent
 from .groups import PIECE, Change
 from .messages import LongRow, Row, row_bytes
 from .server import Login, Place, ask, check_settings, end_place, events, rows
-from .statements import Does, read_statement
-from .stop import AGAIN, Prepared, Stop
-from .transactions import check_key
+from .stop import AGAIN, BEHIND, Prepared, Stop
 from .wire import change_bytes
 
 PORTION = 1000
@@ -69,7 +67,7 @@ def opened_at(login: Login) -> tuple[Connection, Place]:
                 place = place_of(connection)
                 since = {xa: since.get(xa, now) for xa in listed}
                 # one whose commit is in the log by `end`, and isn't seen, is still listed behind that
-                if all(now - one > STANDS for one in since.values()) and not _has_xa_commit(login, end, place) and _stand(beside, listed):
+                if all(now - one > STANDS for one in since.values()) and not _has_xa_end(login, end, place) and _stand(beside, listed):
                     return connection, place
                 if now > last:
                     raise Prepared("XA transactions are committed all the time", f"before {place}", AGAIN)
@@ -90,18 +88,16 @@ def _stand(connection: Connection, listed: set[tuple]) -> bool:
     return not listed or listed <= _prepared(connection)
 
 
-def _has_xa_commit(login: Login, start: Place, end: Place) -> bool:
-    """Whether an XA transaction is committed in the log between two places."""
+def _has_xa_end(login: Login, start: Place, end: Place) -> bool:
+    """Whether an XA transaction ends in the log between two places."""
     if start == end:
         return False
     with closing(login.connect()) as stream:
         for event in events(stream, start):
             if event.log == end.log and event.end > end.offset:
                 break
-            if event.kind in (LogEvent.QUERY, LogEvent.QUERY_COMPRESSED):
-                query = QueryEvent.read(event.kind, event.body)
-                if read_statement(query.text, query.schema).does == Does.XA_COMMIT:
-                    return True
+            if event.kind == LogEvent.GTID and GtidEvent.read(event.body).ends_xa:
+                return True
     return False
 
 
@@ -142,3 +138,12 @@ def in_portions(table: Table, changes: Iterable[bytes]) -> Iterator[Change]:
             portion, size = [], 0
     if portion:
         yield Change(table, b"".join(portion))
+
+
+def check_key(table: Table, row: Sequence[Bytes | None], where: str) -> None:
+    """Stops at a key that a collation which ignores blanks at the end orders or compares otherwise than bytes."""
+    for at in table.key:
+        value = row[at]
+        if table.columns[at].pads and value and (value[-1:] == b" " or min(value) < 0x20):
+            raise Stop(f"a key of {table.schema}.{table.name} with a blank at its end or a control character, {bytes(value[:40])!r},", where,
+                       f"make the collation of column {table.columns[at].name} a _nopad_bin one, or VARBINARY, and {BEHIND}")  # fmt: skip

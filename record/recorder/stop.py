@@ -32,24 +32,17 @@ class Refused(Stop):
 
     def __init__(self, what: str, where: str, todo: str, number: int | None) -> None:
         super().__init__(what, where, todo)
-        self.number, self.transaction = number, None
-        """The transaction is set where it is known."""
+        self.number = number
 
-
-class Untold(Stop):
-    """A stop at what the program doesn't tell of a log, where the recorder may: `why` says what, and where. `is_once` where the
-    program may go on behind it."""
-
-    def __init__(self, what: str, where: str = "", todo: str = "", is_once: bool = False) -> None:
-        super().__init__(what, where, todo or WITHOUT)
-        self.why, self.is_once = on_one_line(f"{what} {where}".rstrip()), is_once
+    def with_todo(self, todo: str, where: str = "") -> "Refused":
+        """The same, with where that is and what to do behind it."""
+        return Refused(f"{self}," if where else str(self), where, todo, self.number)
 
 
 ANEW = "record anew with --from-snapshot"
 BEHIND = f"go on with --anew-behind, or {ANEW}"
 """Where a feed is that can go on with a snapshot."""
 AGAIN = "record again"
-WITHOUT = "record with --by-recorder in place of --by-log"
 
 
 def on_one_line(text: str) -> str:

@@ -16,7 +16,7 @@ _UNIQUE = """SELECT index_name, GROUP_CONCAT(IF(sub_part IS NULL, column_name, '
 
 def told_of(connection: Connection, tables: list[Table], shard: str) -> list[str]:
     """The lines of one shard's recording."""
-    return [*of_names(tables), *(() if shard in WHOLE else of_shards(connection, tables))]
+    return [] if shard in WHOLE else list(of_shards(connection, tables))
 
 
 def of_shards(connection: Connection, tables: list[Table], vindexes: dict[str, str] | None = None) -> Iterator[str]:
@@ -29,14 +29,6 @@ def of_shards(connection: Connection, tables: list[Table], vindexes: dict[str, s
         for index, columns in ask(connection, _UNIQUE, *table.full):
             if not any(some <= set(columns.split("\n")) for some in apart):
                 yield f"unique index {index} of {'.'.join(table.full)}: two shards may have one value, which a target's server refuses ({PAGE})"
-
-
-def of_names(tables: list[Table]) -> Iterator[str]:
-    """A line for each table that is taken for another one under some keyspace."""
-    for table in tables:
-        keyspace, dot, rest = table.name.partition(".")
-        if dot:
-            yield f"table {table.name}: a workflow of keyspace {keyspace} takes it for {rest} ({PAGE})"
 
 
 def check_names(tables: list[Table], keyspace: str) -> None:

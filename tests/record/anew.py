@@ -41,11 +41,11 @@ class Case:
 
 
 CASES = [
-    Case("truncate", "TRUNCATE anew.t; INSERT INTO anew.t (id) VALUES (5), (7777); ", "TRUNCATE of a recorded table, anew.t "),
+    Case("truncate", "TRUNCATE anew.t; INSERT INTO anew.t (id) VALUES (5), (7777); ", "the log's copies: refused 152 file "),
     Case("columns added", "ALTER TABLE anew.t ADD a INT NOT NULL DEFAULT 5, ADD b TEXT FIRST; " + ROWS, "another table, or other columns, than the feed has in anew.t", "id, v, n, w"),
     Case("columns dropped", "ALTER TABLE anew.t DROP n; " + ROWS, "another table, or other columns, than the feed has in anew.t", None),
     Case("a column altered", "ALTER TABLE anew.t MODIFY n DECIMAL(9,2); " + ROWS, "another table, or other columns, than the feed has in anew.t", None),
-    Case("a column widened", "ALTER TABLE anew.t MODIFY v VARCHAR(99); " + ROWS, "DDL of a recorded table, anew.t"),
+    Case("a column widened", "ALTER TABLE anew.t MODIFY v VARCHAR(99); " + ROWS, "the log's copies: refused 152 file "),
     Case("columns in another order", "ALTER TABLE anew.t MODIFY w VARBINARY(9) FIRST; " + ROWS, "another table, or other columns, than the feed has in anew.t", "id, v, n, w"),
     Case("a column renamed", "ALTER TABLE anew.t CHANGE n o INT; " + ROWS, "another table, or other columns, than the feed has in anew.t", None),
     Case("a table dropped and made", "DROP TABLE anew.u; CREATE TABLE anew.u (k VARBINARY(9), m INT, PRIMARY KEY (m, k)); INSERT INTO anew.u VALUES ('a', 1); ",
@@ -221,7 +221,8 @@ def further_tables(trial) -> None:
         living.same("tables")
         data = read_file(living.feed)
         count = trial.made(trial.program, "show", living.feed).count(b"group ") - len(groups(old))
-        fine = data.startswith(old) and count == 4 and len(data) > 1_250_000
+        # (three transactions, the position before the snapshot, its rows, and the columns of the empty table)
+        fine = data.startswith(old) and count == 6 and len(data) > 1_250_000
         trial.check("anew, tables in one group", None if fine else f"{count} groups, {len(data)} bytes")
         trial.server.sql("INSERT INTO anew.empty VALUES (1); DELETE FROM anew.more WHERE id < 9; " + ROWS.replace("9000", "9001").replace("-1", "-2"))
         living.check_run("tables appended", "--append")
@@ -235,7 +236,7 @@ def further_tables(trial) -> None:
         stopped = living.run("--append", "--until", last).why_not_stopped("the position is before the rows of a further table (last): ")
         trial.check("anew, tables, until", stopped or (None if read_file(living.feed) == before else "the feed was changed"))
         trial.server.sql("XA START 'x'; INSERT INTO anew.last VALUES (1); XA END 'x'; XA PREPARE 'x'; ")
-        trial.check("anew, tables, prepared", living.run("--append").why_not_stopped("XA transaction 78 of anew.last is prepared in the snapshot"))
+        trial.check("anew, tables, prepared", living.run("--append").why_not_stopped("an XA transaction is prepared before "))
         trial.server.sql("XA COMMIT 'x'; INSERT INTO anew.last VALUES (2)")
         living.check_run("tables, prepared before", "--append")
         living.same("tables, prepared before")
@@ -383,7 +384,7 @@ def at_each_line(trial) -> None:
                 return done
 
         def judge(done: Done) -> str | None:
-            is_so = done.stays and set(done.left) - {"a.feed.lock"} == {"a.feed", "a.feed.json"} and done.has_group == (done.status == 0)
+            is_so = done.stays and set(done.left) - {"a.feed.lock", "a.feed.logs"} == {"a.feed", "a.feed.json"} and done.has_group == (done.status == 0)
             why = done.why_not_stopped("ended by SIGTERM") if done.status else None
             return why or (None if is_so else f"{done}, {done.left}, {done.has_group}")
 

@@ -1,41 +1,49 @@
-"""Feeds that the program makes of copies of the server's log, held to those that the recorder reads itself: the same groups, by what
+"""Feeds that the program makes of copies of the server's log, held to those that the decoder makes of the log: the same groups, by what
 `show` prints, from the whole log, behind a snapshot and grown over it; killed at each moment, without room, with copies that are
-cut and servers that are killed; stopped by what the program refuses (`--by-log`), or read by the recorder there (without it)."""
+cut and servers that are killed; and each stop at what the program doesn't tell or refuses."""
 import json
 import os
 import random
-import re
 import shutil
 import signal
 import time
+
+from recorder.stop import Stop
 
 from . import commands
 from .commands import At, Command, Done
 from .kept import read_file
 from .load import SCHEMAS, SHARDS, Load, creation, tables_of
 from .living import clients
+from .server import Server
 
 KILLS = 12
+NOTED = ["gtids", "snapshot", "position", "tables", "filled", "prepared", "keyspace", "turn", "past"]
+"""What both notes say alike."""
 
 
 class World:
-    """Two feeds of the same tables: one `by` the program, and the recorder's `own`."""
+    """Two feeds of the same tables: one `by` the program, and the decoder's `own`."""
 
     def __init__(self, trial, name: str, shard: str, *tables: str) -> None:
-        self.trial, self.by, self.own = trial, trial.path(f"{name}.by.feed"), trial.path(f"{name}.own.feed")
+        self.trial, self.by = trial, trial.path(f"{name}.by.feed")
+        self.own = f"{self.by}.own"
         self._words, self._tables = ["--socket", trial.server.socket, "--user", "root", f"--shard={shard}", "--keyspace", "ks"], tables
         self._shard = shard
 
-    def words(self, out: str, *words: str) -> list[str]:
-        more = ["--by-log", "--program", self.trial.program] if out == self.by else ["--by-recorder"]
-        return [*self._words, *more, *words, "--out", out, *self._tables]
-
-    def either(self, *words: str) -> list[str]:
-        """Those of a recording by the program that the recorder may help."""
+    def words(self, *words: str) -> list[str]:
         return [*self._words, "--program", self.trial.program, *words, "--out", self.by, *self._tables]
 
+    def decode(self, *words: str, until: str = "") -> Done:
+        """Has the decoder do the same."""
+        try:
+            self.trial.decoded(self._shard, self.by, *words, *self._tables, until=until)
+        except Stop as stop:
+            return Done(1, "", f"decoder: {stop}")
+        return Done(0, "", "")
+
     def record(self, *words: str) -> list[Done]:
-        return [commands.run(*self.words(out, *words)) for out in (self.by, self.own)]
+        return [commands.run(*self.words(*words)), self.decode(*words)]
 
     def shown(self, out: str) -> bytes:
         return self.trial.made(self.trial.program, "show", "--keyspace", "ks", f"--shard={self._shard}", out)
@@ -45,15 +53,15 @@ class World:
         shown = [group.partition(b"\n") for group in self.shown(out).split(b"group ")[1:]]
         return [(head.split(b" ")[1], rows) for head, _, rows in shown if rows]
 
-    def same(self, name: str, *words: str) -> None:
+    def same(self, name: str, *words: str, until: str = "") -> None:
         """Records both, and checks that one call has made of them the same groups."""
-        done = self.record(*words)
+        done = [commands.run(*self.words(*words, *(["--until", until] if until else []))), self.decode(*words, until=until)]
         wrong = [one for one in done if one.status or one.err]
         shown = [self.shown(out) for out in (self.by, self.own)] if not wrong else []
         self.trial.check(f"by log, {name}", f"{wrong}" if wrong else None if shown[0] == shown[1] != b"" else "other groups")
         notes = [json.loads(read_file(f"{out}.json")) for out in (self.by, self.own)] if not wrong else [{}, {}]
-        lacking = [key for key, value in notes[1].items() if key not in ("size", "last", "place", "begun", "recorder") and notes[0].get(key) != value]
-        self.trial.check(f"by log, {name}, the note", f"{[(key, notes[0].get(key), notes[1][key]) for key in lacking]}" if lacking else None)
+        lacking = [key for key in NOTED if notes[0].get(key) != notes[1].get(key)]
+        self.trial.check(f"by log, {name}, the note", f"{[(key, notes[0].get(key), notes[1].get(key)) for key in lacking]}" if lacking else None)
 
     def copies(self) -> list[str]:
         return sorted(os.listdir(f"{self.by}.logs"))
@@ -84,16 +92,13 @@ def loaded(trial) -> None:
                 trial.server.sql("FLUSH BINARY LOGS")
             until = trial.server.sql("SELECT @@gtid_binlog_pos").stdout.decode().strip()
             for world in worlds:
-                world.same(f"a load, append {at}", "--append", "--until", until)
+                world.same(f"a load, append {at}", "--append", until=until)
     load.wait()
     for world in worlds:
         world.same("a load, the rest", "--append")
     [last] = worlds[0].copies()
     have, want = read_file(f"{worlds[0].by}.logs/{last}"), read_file(os.path.join(trial.server.folder, "data", last))
     trial.check("by log, copies", None if last == logs_of(trial)[-1] and have and want.startswith(have) else f"{last}, {len(have)} bytes and {len(want)}")
-    for world in worlds:
-        done = commands.run(*(word for word in world.either("--append", "--by-recorder") if word not in ("--program", trial.program)))
-        trial.check("by log, gone on with by the recorder", None if done.status == 0 and world.shown(world.by) == world.shown(world.own) else f"{done}")
 
 
 def rotated(trial) -> None:
@@ -119,13 +124,24 @@ def rotated(trial) -> None:
     snapshot.same("behind a snapshot", "--append")
     noted = json.loads(read_file(f"{snapshot.by}.json"))
     trial.check("by log, whose word", None if noted["recorder"] and noted["recorder"] != noted["gtids"] else f"{noted}")
+    amid(trial, snapshot, noted["place"]["log"], noted["place"]["offset"])
+
+
+def amid(trial, world: World, log: str, end: int) -> None:
+    """A copy that begins amid its log has the log's first event, a list, and the log's bytes from a place on, up to where the feed ends."""
+    have, want, head = read_file(f"{world.by}.logs/{log}"), read_file(os.path.join(trial.server.folder, "data", log))[:end], 4
+    for _ in range(2):
+        first, head = head, head + int.from_bytes(have[head + 9:head + 13], "little")
+    lacks, listed = len(want) - len(have), int.from_bytes(have[first + 13:first + 17], "little")
+    fine = lacks > 0 and listed == head + lacks and have[head:] == want[head + lacks:] != b"" and have[:4] == want[:4] and have[first + 4] == 163
+    trial.check("by log, a copy that begins amid its log", None if fine else f"{head}, {lacks}, {listed}, {len(have)} bytes and {len(want)}")
 
 
 def interrupted(trial) -> None:
     """An append is killed, and ended, at each system call that changes files: the next one goes on, and nothing that was seen is gone."""
     trial.server.sql("INSERT INTO b.t VALUES (20, 'a'); FLUSH BINARY LOGS; INSERT INTO b.u VALUES (20, 'a'); INSERT INTO b.u VALUES (21, 'a')")
     first = World(trial, "rotated", "-", "b.t", "b.u")
-    commands.run(*first.words(first.own, "--append"))
+    first.decode("--append")
     wanted = first.shown(first.own)
 
     def copy(name: str) -> World:
@@ -136,14 +152,14 @@ def interrupted(trial) -> None:
         return world
 
     counted = copy("counted")
-    count = commands.calls_of(commands.CHANGING, *counted.words(counted.by, "--append"))
+    count = commands.calls_of(commands.CHANGING, *counted.words("--append"))
 
     def why(item: tuple) -> str | None:
         how, number = item
         world = copy(f"{how}-{number}")
-        done = commands.run(*world.words(world.by, "--append"), prepare=At(number, getattr(commands, how)))
+        done = commands.run(*world.words("--append"), prepare=At(number, getattr(commands, how)))
         seen = read_file(world.by)
-        again = commands.run(*world.words(world.by, "--append"))
+        again = commands.run(*world.words("--append"))
         ended = done.status == -signal.SIGKILL or how == "ended"
         cut = "cut off" in again.err
         is_right = ended and again.status == 0 and world.shown(world.by) == wanted and (cut or read_file(world.by).startswith(seen))
@@ -159,7 +175,7 @@ def killed(trial) -> None:
     world, chance, seen, faults = World(trial, schema, shard, *tables_of(schema)), random.Random(5), b"", []
     with clients(trial.server.socket, 41, xa=False):
         for at in range(KILLS):
-            one = Command(*world.words(world.by, "--append", "--forever"))
+            one = Command(*world.words("--append", "--forever"))
             one.awaits(lambda one=one: one.has_said("going on"), "by log")
             time.sleep(chance.random())
             one.kill(signal.SIGTERM if at % 4 == 3 else signal.SIGKILL)
@@ -186,7 +202,7 @@ def waited(trial) -> None:
     world = World(trial, "rotated", "-", "b.t", "b.u")
     world.record("--append")
     shutil.rmtree(f"{world.by}.logs")
-    one = Command(*world.words(world.by, "--append", "--forever"), prepare=_thins)
+    one = Command(*world.words("--append", "--forever"), prepare=_thins)
     one.awaits(lambda: one.has_said("going on"), "by log")
     for number, more in enumerate(["", "FLUSH BINARY LOGS; ", ""], 100):
         size = os.path.getsize(world.by)
@@ -197,21 +213,21 @@ def waited(trial) -> None:
             trial.server.sql(f"KILL {line.split()[0]}; INSERT INTO b.t VALUES (103, 'k')")
     one.awaits(lambda: one.has_said("going on", 2) and b"x313033" in world.shown(world.by), "a connection anew")
     trial.server.sql("XA START 'x'; INSERT INTO b.u VALUES (100, 'x'); XA END 'x'; XA PREPARE 'x'")
-    one.awaits(lambda: one.has_said("an XA transaction of recorded tables is prepared"), "an XA transaction")
+    one.awaits(lambda: one.has_said("an XA transaction is prepared"), "an XA transaction")
     size = os.path.getsize(world.by)
-    trial.check("by log, an XA transaction", commands.run(*world.words(world.by, "--append")).why_not_stopped("another recording writes this feed"))
+    trial.check("by log, an XA transaction", commands.run(*world.words("--append")).why_not_stopped("another recording writes this feed"))
     trial.server.sql("XA COMMIT 'x'")
     one.awaits(lambda: os.path.getsize(world.by) > size, "its end")
     one.kill(signal.SIGTERM)
     done = one.wait()
-    commands.run(*world.words(world.own, "--append"))
+    world.decode("--append")
     trial.check("by log, for ever", None if done.status == 0 and world.changes(world.by) == world.changes(world.own) else f"{done}")
     last = int(trial.server.sql("SELECT @@gtid_binlog_pos").stdout.decode().strip().rpartition("-")[2])
-    one = Command(*world.words(world.by, "--append", "--forever", "--until", f"0-7-{last + 2}"))
+    one = Command(*world.words("--append", "--forever", "--until", f"0-7-{last + 2}"))
     one.awaits(lambda: one.has_said("going on"), "by log")
     trial.server.sql("INSERT INTO b.t VALUES (110, 'l'); INSERT INTO b.t VALUES (111, 'l'); INSERT INTO b.t VALUES (112, 'l')")
     done = one.wait()
-    commands.run(*world.words(world.own, "--append", "--until", f"0-7-{last + 2}"))
+    world.decode("--append", until=f"0-7-{last + 2}")
     trial.check("by log, until", None if done.status == 0 and world.changes(world.by) == world.changes(world.own) else f"{done}")
 
 
@@ -219,7 +235,7 @@ def altered(trial) -> None:
     """A table without rows is altered while its feed lives; and a compaction is lent the feed."""
     trial.server.sql("RESET MASTER; CREATE DATABASE e; CREATE TABLE e.t (id INT PRIMARY KEY); CREATE TABLE e.u (id INT PRIMARY KEY)")
     world = World(trial, "altered", "-", "e.t", "e.u")
-    one = Command(*world.words(world.by, "--forever"))
+    one = Command(*world.words("--forever"))
     one.awaits(lambda: one.has_said("going on"), "by log")
     trial.server.sql("INSERT INTO e.u VALUES (1); ALTER TABLE e.t ADD v INT; INSERT INTO e.t VALUES (1, 2); UPDATE e.u SET id=2")
     one.awaits(lambda: len(world.changes(world.by)) == 3, "a table that was altered")
@@ -240,7 +256,7 @@ def refused(trial) -> None:
     the program's feed would lack stops it before."""
     world = World(trial, "rotated", "-", "b.t", "b.u")
     world.record("--append")
-    one = Command(*world.words(world.by, "--append", "--forever"))
+    one = Command(*world.words("--append", "--forever"))
     one.awaits(lambda: one.has_said("going on"), "by log")
     trial.server.sql("INSERT INTO b.t VALUES (200, 'r'); INSERT INTO b.t VALUES (201, 'r'); TRUNCATE b.t; INSERT INTO b.t VALUES (202, 'r')")
     done = one.wait()
@@ -248,207 +264,162 @@ def refused(trial) -> None:
     fine = done.status == 1 and "the log's copies: refused 152 file " in done.err and b"x323031" in rows
     trial.check("by log, TRUNCATE", None if fine else f"{done}, {rows}")
     data = read_file(world.by), read_file(f"{world.by}.json")
-    done = commands.run(*world.words(world.by, "--append"))
+    done = commands.run(*world.words("--append"))
     fine = data == (read_file(world.by), read_file(f"{world.by}.json"))
     trial.check("by log, TRUNCATE again", done.why_not_stopped("refused 152 file ") or (None if fine else "changed"))
-    trial.server.sql("CREATE TABLE b.f (id INT PRIMARY KEY, f FLOAT); CREATE TABLE b.z (id INT(4) ZEROFILL PRIMARY KEY); CREATE TABLE b.ok (id INT PRIMARY KEY)")
-    for table, line in ("b.f", "column f, which is FLOAT32,"), ("b.z", "column id, which is ZEROFILL,"):
-        other = World(trial, "other", "-", table)
-        trial.check(f"by log, {line}", commands.run(*other.words(other.by)).why_not_stopped(line))
     other = World(trial, "other", "-", "b.ok")
-    trial.check("by log, a purged log", commands.run(*other.words(other.by)).why_not_stopped("refused 159 file "))
-    trial.check("by log, --anew-behind", None if commands.run(*other.words(other.by, "--anew-behind")).status == 2 else "another status")
+    trial.server.sql("CREATE TABLE b.ok (id INT PRIMARY KEY)")
+    trial.check("by log, a purged log", commands.run(*other.words()).why_not_stopped("refused 159 file "))
+    done = commands.run(*world.words("--anew-behind"))
+    trial.check("by log, --anew-behind", f"{done}" if done.status or done.err else None)
+    workflow = trial.workflow("refused.json", ["-"], ["b.t", "b.u"])
+    trial.same("by log, behind --anew-behind", trial.made(trial.program, "run", workflow, world.by), trial.selected(workflow, "b"))
     trial.server.sql("DROP DATABASE b; RESET MASTER; " + "".join(f"DROP DATABASE IF EXISTS {schema}; " for schema in SCHEMAS))
 
 
 AMID_THE_LOG = [
-    ("an index", "CREATE INDEX i ON o.t (v); INSERT INTO o.t VALUES (2, 2)",
-     "the log's copies: refused 152 file {}.logs/binlog.000001 byte N table t: the recorder"),
-    ("behind it", "INSERT INTO o.t VALUES (3, 3)", ""),
-    ("a packed log", "SET GLOBAL log_bin_compress=1; INSERT INTO o.t VALUES (4, 4)", "log_bin_compress is on: the recorder"),
-    ("a log that was packed", "USE o; SET GLOBAL log_bin_compress_min_len=10; INSERT INTO t SELECT seq, 1 FROM seq_100_to_300; SET GLOBAL log_bin_compress=0", None),
-    ("an XA transaction", "XA START 'o'; INSERT INTO o.t VALUES (5, 5); XA END 'o'; XA PREPARE 'o'", None),
-    ("its end in another file", "FLUSH BINARY LOGS; XA COMMIT 'o'", None),
-    ("another file", "FLUSH BINARY LOGS; INSERT INTO o.t VALUES (6, 6)", None),
-    ("behind that", "INSERT INTO o.t VALUES (9, 6)", ""),
+    ("an index", "CREATE INDEX i ON o.t (v); INSERT INTO o.t VALUES (2, 2)", "refused 152 file "),
+    ("a view of it", "CREATE VIEW o.w AS SELECT * FROM o.t; INSERT INTO o.t VALUES (3, 3)", "refused 152 file "),
+    ("a packed log", "SET GLOBAL log_bin_compress=1; INSERT INTO o.t VALUES (4, 4)", "log_bin_compress is on: packed events aren't read; SET GLOBAL log_bin_compress=0, FLUSH BINARY LOGS, and "),
+    ("a log that was packed", "SET GLOBAL log_bin_compress=1, log_bin_compress_min_len=10//USE o; CREATE TABLE p (id INT PRIMARY KEY, v TEXT); INSERT INTO p SELECT seq, REPEAT('a', 900) FROM seq_1_to_9; SET GLOBAL log_bin_compress=0", "refused 153 file "),
+    ("TRUNCATE", "TRUNCATE o.t; INSERT INTO o.t VALUES (5, 5)", "refused 152 file "),
+    ("statement format", "SET binlog_format=STATEMENT; INSERT INTO o.t VALUES (6, 6)", "refused 151 file "),
+    ("a row image", "SET binlog_row_image=MINIMAL; UPDATE o.t SET v=1 WHERE id=6", "refused 147 file "),
 ]  # fmt: skip
-"""What stands in the log behind a recording, and the line of the next one: none, or one where the program may know more some day."""
-UNTOLD = [("float", ["o.t", "o.f"], "column f, which is FLOAT32, in o.f: the recorder"), ("name", ["o.t u"], "a table's name that isn't plain (t u): the recorder")]
-WHILE_IT_LIVES = [
-    ("INSERT INTO o.e VALUES (1)", 1),
-    ("ALTER TABLE o.t COMMENT='c'; OPTIMIZE TABLE o.t; INSERT INTO o.t VALUES (20, 1)", 2),
-    ("INSERT INTO o.t VALUES (21, 1)", 2),
-    ("ALTER TABLE o.t ADD INDEX j (v); INSERT INTO o.t VALUES (22, 1)", 3),
-]
-"""Statements, and how many lines say behind them that the recorder has read something."""
+"""What stands in the log behind a recording, by one client behind the other, and the line at which the next one stops."""
+UNTOLD = [
+    ("float", ["o.t", "o.f"], "column f, which is FLOAT32, in o.f: no log is read as the server prints it; make it DECIMAL"),
+    ("zerofill", ["o.z"], "column id, which is ZEROFILL, in o.z: no log is read as the server prints it; make it a plain number"),
+    ("name", ["o.t u"], "a table's name that isn't plain (t u) in o: "),
+    ("schemas", ["o.t", "o2.s"], "tables of several schemas (o, o2): record one feed of each"),
+]  # fmt: skip
+"""Tables of which a log doesn't tell all, and the line."""
 
 
-def _goes_on(trial, world: World, name: str, line: str, *words: str) -> None:
-    """Checks that a recording by the program is helped by the recorder, with a line that says so, whatever its byte N is, and has the recorder's groups."""
-    done = commands.run(*world.either(*words))
-    commands.run(*world.words(world.own, *words))
-    said = re.escape(f"feed: {line.format(world.by)}").replace("byte\\ N", r"byte\ \d+") if line else ""
-    fine = done.status == 0 and re.match(said, done.err) and done.err.count("\n") == bool(line) and done.err.count("reads the log in the program's place") == bool(line)
-    trial.check(f"either way, {name}", None if fine and world.changes(world.by) == world.changes(world.own) else f"{done}")
-
-
-def _lets_go(trial) -> None:
-    """Copies that are large go, though a table has had no rows; its first ones the recorder reads."""
-    trial.server.sql("RESET MASTER; CREATE DATABASE w; CREATE TABLE w.t (id INT PRIMARY KEY); CREATE TABLE w.e (id INT PRIMARY KEY); INSERT INTO w.t VALUES (1)")
-    world = World(trial, "goes", "-", "w.t", "w.e")
-    _goes_on(trial, world, "an empty table", "")
-    trial.server.sql("FLUSH BINARY LOGS; INSERT INTO w.t VALUES (2)")
-    done = commands.run(*world.either("--append"), prepare=_keeps_none)
-    commands.run(*world.words(world.own, "--append"))
-    trial.check("either way, large copies", None if not (done.status or done.err) and world.copies() == logs_of(trial)[-1:] else f"{done}, {world.copies()}")
-    trial.server.sql("INSERT INTO w.e VALUES (3)")
-    _goes_on(trial, world, "the first rows of a table", f"the log's copies: refused 159 file {world.by}.logs/binlog.000002 byte N table e: the recorder", "--append")
-    trial.server.sql("DROP DATABASE w")
-
-
-def _keeps_none() -> None:
-    from recorder import bylog as module
-
-    module.MOST_KEPT = 0
-
-
-def _without_memory() -> None:
-    from recorder import bylog as module
-
-    module.free_memory = lambda: 100
-
-
-def either(trial) -> None:
-    """What the program can't tell of a server, of tables and of a feed, the recorder reads, and a line says so; what it refuses amid the
-    log the recorder reads too, unless that stops at it, with its own line; and where the program can't be run."""
-    trial.server.sql("RESET MASTER; CREATE DATABASE o; CREATE TABLE o.t (id INT PRIMARY KEY, v INT); CREATE TABLE o.f (id INT PRIMARY KEY, f FLOAT);"
-                     " CREATE TABLE o.`t u` (id INT PRIMARY KEY); INSERT INTO o.t VALUES (1, 1); INSERT INTO o.f VALUES (1, 1.5)")  # fmt: skip
-    world = World(trial, "either", "-", "o.t")
-    _goes_on(trial, world, "a table", "")
+def stopped(trial) -> None:
+    """Each stop at what the program can't tell of a server, of tables and of a log says what to do, and is one line; the feed is as it was,
+    also behind a snapshot; --anew-behind goes on."""
+    trial.server.sql("RESET MASTER; CREATE DATABASE o; CREATE DATABASE o2; CREATE TABLE o2.s (id INT PRIMARY KEY); CREATE TABLE o.t (id INT PRIMARY KEY, v INT);"
+                     " CREATE TABLE o.f (id INT PRIMARY KEY, f FLOAT); CREATE TABLE o.z (id INT(4) ZEROFILL PRIMARY KEY); CREATE TABLE o.`t u` (id INT PRIMARY KEY);"
+                     " INSERT INTO o.t VALUES (1, 1); INSERT INTO o.f VALUES (1, 1.5)")  # fmt: skip
+    world, workflow = World(trial, "stopped", "-", "o.t"), trial.workflow("stopped.json", ["-"], ["o.t"])
+    world.same("before stops")
     for name, text, line in AMID_THE_LOG:
-        trial.server.sql(text)
-        if line is None:
-            # (the program may know more of these)
-            done = commands.run(*world.either("--append"))
-            commands.run(*world.words(world.own, "--append"))
-            waits = "is prepared" in done.err and "XA PREPARE" in text
-            fine = done.status == waits and world.changes(world.by) == world.changes(world.own)
-            trial.check(f"either way, {name}", None if fine else f"{done}")
-        else:
-            _goes_on(trial, world, name, line, "--append")
+        for part in text.split("//"):
+            trial.server.sql(part)
+        data = read_file(world.by), read_file(f"{world.by}.json")
+        done = commands.run(*world.words("--append"))
+        why = done.why_not_stopped(line) or (None if "--anew-behind" in done.err else f"{done}")
+        trial.check(f"stopped, {name}", why or (None if data == (read_file(world.by), read_file(f"{world.by}.json")) else "changed"))
+        trial.server.sql("SET GLOBAL log_bin_compress=0")
+        done = commands.run(*world.words("--anew-behind"))
+        trial.check(f"stopped, behind {name}", f"{done}" if done.status or done.err else None)
+        trial.same(f"stopped, rows behind {name}", trial.made(trial.program, "run", workflow, world.by), trial.selected(workflow, "o"))
     for name, tables, line in UNTOLD:
-        _goes_on(trial, World(trial, f"either.{name}", "-", *tables), name, line)
-    plain = [word for word in world.either() if word not in ("--keyspace", "ks", world.by)]
-    at = plain.index("--out") + 1
-    done = commands.run(*plain[:at], trial.path("either.gtids"), *plain[at:])
-    trial.check("either way, no keyspace", None if done.status == 0 and done.err.startswith("feed: positions without a keyspace: the recorder") else f"{done}")
-    nowhere = ["/nowhere" if word == trial.program else word for word in world.either("--append")]
+        for words in (), ("--from-snapshot",):
+            trial.check(f"stopped, {name} {words}", commands.run(*World(trial, f"stopped.{name}", "-", *tables).words(*words)).why_not_stopped(line))
+    data = read_file(world.by), read_file(f"{world.by}.json")
     trial.server.sql("INSERT INTO o.t VALUES (7, 7)")
-    done = commands.run(*nowhere)
-    trial.check("either way, no program", None if done.status == 0 and "no program at /nowhere" in done.err else f"{done}")
-    trial.server.sql("INSERT INTO o.t VALUES (11, 7)")
-    done = commands.run(*world.either("--append"), prepare=_without_memory)
-    trial.check("either way, no memory", None if done.status == 0 and "of memory are wanted for the log's copies and the feed" in done.err else f"{done}")
-    trial.server.sql("TRUNCATE o.t")
-    trial.check("either way, TRUNCATE", commands.run(*world.either("--append")).why_not_stopped("TRUNCATE of a recorded table, o.t"))
-    done = commands.run(*world.either("--anew-behind"))
-    trial.check("either way, --anew-behind", None if done.status == 0 and done.err.startswith("feed: --anew-behind: the recorder") else f"{done}")
-    trial.server.sql("INSERT INTO o.t VALUES (8, 8)")
-    done = commands.run(*world.either("--append"))
-    workflow = trial.workflow("either.json", ["-"], ["o.t"])
-    trial.same("either way, behind --anew-behind", trial.made(trial.program, "run", workflow, world.by), trial.selected(workflow, "o"))
-    trial.check("either way, the program again", f"{done}" if done.status or done.err else None)
-    _lets_go(trial)
+    nowhere = commands.run(*("/nowhere" if word == trial.program else word for word in world.words("--append")))
+    trial.check("stopped, no program", nowhere.why_not_stopped("no program at /nowhere: ") or (None if data == (read_file(world.by), read_file(f"{world.by}.json")) else "changed"))
+    world.trial.check("stopped, and on", None if commands.run(*world.words("--append")).status == 0 else "another status")
+    trial.same("stopped, rows at last", trial.made(trial.program, "run", workflow, world.by), trial.selected(workflow, "o"))
 
 
-def either_forever(trial) -> None:
-    """One that lives has the recorder read a transaction that the program refuses, and goes on by the program; an empty table of a
-    snapshot has its first rows; a table more comes in."""
-    trial.server.sql("CREATE TABLE o.e (id INT PRIMARY KEY)")
-    trial.server.purge(_next(trial))
+def lives(trial) -> None:
+    """An empty table of a snapshot has its first rows; an XA transaction of another table, prepared before a snapshot in an earlier log, ends
+    behind it; a table more comes in; what the program refuses ends one that lives, with what is before it; a reading that takes long is a
+    line."""
+    trial.server.sql("CREATE TABLE o.e (id INT PRIMARY KEY); FLUSH BINARY LOGS; XA START 'o'; INSERT INTO o2.s VALUES (1); XA END 'o'; XA PREPARE 'o'")
+    trial.server.sql("FLUSH BINARY LOGS")
     world = World(trial, "lives", "-", "o.t", "o.e")
-    one = Command(*world.either("--from-snapshot", "--forever"))
-    one.awaits(lambda: one.has_said("going on"), "either way")
-    for number, (text, lines) in enumerate(WHILE_IT_LIVES, 1):
+    one = Command(*world.words("--from-snapshot", "--forever"))
+    one.awaits(lambda: one.has_said("going on"), "lives")
+    for number, text in enumerate(["XA COMMIT 'o'; INSERT INTO o.e VALUES (1)", "INSERT INTO o.t VALUES (20, 1)", "FLUSH BINARY LOGS; INSERT INTO o.t VALUES (21, 1)"], 1):
         trial.server.sql(text)
         one.awaits(lambda number=number: len(world.changes(world.by)) == number + 1, text)
-        one.awaits(lambda lines=lines: one.has_said("reads the log in the program's place", lines) and one.has_said("going on", lines + 1), text)
     one.kill(signal.SIGTERM)
-    done, noted = one.wait(), json.loads(read_file(f"{world.by}.json"))
-    workflow = trial.workflow("lives.json", ["-"], ["o.t", "o.e"])
-    trial.same("either way, one that lives", trial.made(trial.program, "run", workflow, world.by), trial.selected(workflow, "o"))
-    lines = done.err.count("the recorder reads the log in the program's place")
-    trial.check("either way, lines of one that lives", None if done.status == 0 and lines == 3 and noted["recorder"] != noted["gtids"] else f"{done}, {noted}")
-    trial.server.sql("CREATE TABLE o.m (id INT PRIMARY KEY); INSERT INTO o.m VALUES (1)")
-    one = Command(*("/nowhere" if word == trial.program else word for word in world.either("--append", "--forever")))
-    one.awaits(lambda: one.has_said("no program at /nowhere") and one.has_said("going on"), "no program")
-    trial.server.sql("INSERT INTO o.e VALUES (30)")
-    one.awaits(lambda: b"+ e\tx3330\n" in world.shown(world.by), "a transaction without a program")
-    one.kill(signal.SIGTERM)
-    trial.check("either way, one that lives without a program", None if one.wait().status == 0 else "another status")
+    done, noted, workflow = one.wait(), json.loads(read_file(f"{world.by}.json")), trial.workflow("lives.json", ["-"], ["o.t", "o.e"])
+    trial.same("lives, rows", trial.made(trial.program, "run", workflow, world.by), trial.selected(workflow, "o"))
+    trial.check("lives, the note", None if done.status == 0 and done.err.count("\n") == 1 and noted["recorder"] != noted["gtids"] else f"{done}, {noted}")
     slow = trial.path("slow")
     with open(slow, "w", encoding="utf-8") as file:
         file.write(f'#!/bin/sh\n[ "$1" = transcribe ] && sleep 6\nexec "{trial.program}" "$@"\n')
     os.chmod(slow, 0o755)
-    one = Command(*(slow if word == trial.program else word for word in world.either("--append", "--forever")))
+    one = Command(*(slow if word == trial.program else word for word in world.words("--append", "--forever")))
     one.awaits(lambda: one.has_said("going on"), "a program that takes long")
     trial.server.sql("INSERT INTO o.e VALUES (31)")
-    one.awaits(lambda: one.has_said("seconds: a smaller max_binlog_size") and one.has_said("going on", 2), "a reading that takes long")
-    trial.server.sql("INSERT INTO o.e VALUES (32)")
-    one.awaits(lambda: b"+ e\tx3332\n" in world.shown(world.by), "a transaction behind it")
+    one.awaits(lambda: one.has_said("seconds: a smaller max_binlog_size"), "a reading that takes long")
+    one.awaits(lambda: b"+ e\tx3331\n" in world.shown(world.by), "a transaction behind it")
     one.kill(signal.SIGTERM)
-    trial.check("either way, one that lives by a program that takes long", None if one.wait().status == 0 else "another status")
-    more = World(trial, "lives", "-", "o.t", "o.e", "o.m")
-    one = Command(*more.either("--append", "--forever"))
-    one.awaits(lambda: one.has_said("a table more than the feed has (o.m): the recorder") and one.has_said("going on"), "a table more")
-    trial.server.sql("INSERT INTO o.m VALUES (2); ALTER TABLE o.m ADD w INT")
+    trial.check("lives, by a program that takes long", None if one.wait().status == 0 else "another status")
+    trial.server.sql("CREATE TABLE o.m (id INT PRIMARY KEY); INSERT INTO o.m VALUES (1); CREATE TABLE o.n (id INT PRIMARY KEY)")
+    more = World(trial, "lives", "-", "o.t", "o.e", "o.m", "o.n")
+    one = Command(*more.words("--append", "--forever"))
+    one.awaits(lambda: one.has_said("going on"), "tables more")
+    trial.server.sql("INSERT INTO o.m VALUES (2); INSERT INTO o.n VALUES (3); ALTER TABLE o.m ADD w INT")
     done = one.wait()
-    fine = done.status == 1 and "in o.m: go on with --anew-behind" in done.err.splitlines()[-1] and b"+ m\tx32" in more.shown(more.by)
-    trial.check("either way, a stop of one that lives", None if fine else f"{done}")
-    trial.server.sql("DROP DATABASE o")
+    fine = done.status == 1 and "refused 152 file " in done.err.splitlines()[-1] and b"+ m\tx32" in more.shown(more.by) and b"+ n\tx33" in more.shown(more.by)
+    trial.check("lives, a stop", None if fine else f"{done}")
+    trial.server.sql("DROP DATABASE o; DROP DATABASE o2")
 
 
 def upgraded(trial) -> None:
-    """A feed of the recorder that a note without `recorder` tells of, and one that it left beside an XA transaction: each goes on, and has
-    all bytes that were there."""
+    """A feed that a recorder of before wrote, by its own reading, and whose note says so or doesn't: it goes on, and has all bytes that
+    were there."""
     trial.server.sql("RESET MASTER; CREATE DATABASE g; CREATE TABLE g.t (id INT PRIMARY KEY); INSERT INTO g.t VALUES (1)")
-    world = World(trial, "upgraded", "-", "g.t")
-
-    def lives(number: int, xa: str, lines: int, *words: str) -> bytes:
-        one = Command(*words)
-        one.awaits(lambda: one.has_said("going on"), "upgraded")
-        for text in xa, f"INSERT INTO g.t VALUES ({number})":
-            trial.server.sql(text)
-        one.awaits(lambda: b"+ t\tx%b\n" % str(number).encode().hex().encode() in world.shown(world.by), "a transaction")
-        one.kill(signal.SIGTERM)
-        done = one.wait()
-        trial.check(f"upgraded, {number}", None if done.status == 0 and done.err.count("groups of the recorder behind the note's end") == lines else f"{done}")
-        return read_file(world.by)
-
-    commands.run(*(word for word in world.either("--by-recorder", "--from-snapshot") if word not in ("--program", trial.program)))
-    note = json.loads(read_file(f"{world.by}.json"))
-    del note["recorder"]
-    with open(f"{world.by}.json", "w", encoding="utf-8") as file:
-        json.dump(note, file)
-    seen = read_file(world.by)
-    for number, xa, lines, way in [(2, "SELECT 1", 0, []), (3, "XA START 'g'; INSERT INTO g.t VALUES (70); XA END 'g'; XA PREPARE 'g'", 0, ["--by-recorder"]), (4, "SELECT 1", 1, []),
-                                   (5, "XA COMMIT 'g'", 1, []), (6, "SELECT 1", 0, [])]:  # fmt: skip
-        words = world.either("--append", "--forever", *way)
-        data = lives(number, xa, lines, *(word for word in words if not way or word not in ("--program", trial.program)))
-        trial.check(f"upgraded, {number}, what was there", None if data.startswith(seen) else "changed")
-        seen = data
-    workflow = trial.workflow("upgraded.json", ["-"], ["g.t"])
-    trial.same("upgraded, rows", trial.made(trial.program, "run", workflow, world.by), trial.selected(workflow, "g"), 7)
+    world, seen = World(trial, "upgraded", "-", "g.t"), b""
+    world.decode()
+    for number, old in enumerate([{"recorder": None}, {"recorder": "0-7-3"}], 2):
+        for end in "", ".json":
+            shutil.copy(f"{world.own}{end}", f"{world.by}{end}")
+        note = json.loads(read_file(f"{world.by}.json")) | old
+        with open(f"{world.by}.json", "w", encoding="utf-8") as file:
+            json.dump(note, file)
+        shutil.rmtree(f"{world.by}.logs", ignore_errors=True)
+        seen = read_file(world.by)
+        trial.server.sql(f"INSERT INTO g.t VALUES ({number})")
+        done, noted = commands.run(*world.words("--append")), json.loads(read_file(f"{world.by}.json"))
+        fine = done.status == 0 and not done.err and read_file(world.by).startswith(seen) and noted["recorder"] == (note["recorder"] or note["gtids"])
+        trial.check(f"upgraded, {number}", None if fine else f"{done}, {noted}")
+        world.decode("--append")
+        trial.check(f"upgraded, {number}, groups", None if world.changes(world.by) == world.changes(world.own) else "others")
+    lags(trial, world)
     trial.server.sql("DROP DATABASE g")
 
 
-def _next(trial) -> str:
-    """The log that is begun next."""
-    name, _, number = logs_of(trial)[-1].rpartition(".")
-    return f"{name}.{int(number) + 1:06d}"
+def lags(trial, world: World) -> None:
+    """A note of before may have reached more than its feed says: transactions of other tables."""
+    for end in "", ".json":
+        shutil.copy(f"{world.own}{end}", f"{world.by}{end}")
+    trial.server.sql("CREATE TABLE g.aside (id INT PRIMARY KEY); INSERT INTO g.aside VALUES (1)")
+    log, offset, gtids = trial.server.sql("SHOW MASTER STATUS; SELECT @@gtid_binlog_pos").stdout.decode().split()
+    note = json.loads(read_file(f"{world.by}.json")) | {"place": {"log": log, "offset": int(offset)}, "gtids": gtids}
+    with open(f"{world.by}.json", "w", encoding="utf-8") as file:
+        json.dump(note, file)
+    shutil.rmtree(f"{world.by}.logs")
+    trial.server.sql("INSERT INTO g.t VALUES (9)")
+    done = commands.run(*world.words("--append"))
+    world.decode("--append")
+    trial.check("upgraded, a note that is ahead", None if done.status == 0 and not done.err and world.changes(world.by) == world.changes(world.own) else f"{done}")
+
+
+def unsummed(trial) -> None:
+    """A log without checksums, and transactions of several domains: copies begin amid it."""
+    with Server(7, "--binlog-checksum=NONE") as server:
+        aside = type(trial)(server, trial.program)
+        server.sql("CREATE DATABASE n; CREATE TABLE n.t (id INT PRIMARY KEY); CREATE TABLE n.e (id INT PRIMARY KEY); INSERT INTO n.t VALUES (1); SET gtid_domain_id=4294967295; INSERT INTO n.t VALUES (2)")
+        world = World(aside, "unsummed", "-", "n.t", "n.e")
+        world.same("a snapshot without checksums", "--from-snapshot")
+        server.sql("INSERT INTO n.t VALUES (3); SET gtid_domain_id=5, gtid_seq_no=9000000000000; INSERT INTO n.e VALUES (1); FLUSH BINARY LOGS; INSERT INTO n.t VALUES (4)")
+        world.same("behind it, without checksums", "--append")
+        shutil.rmtree(f"{world.by}.logs")
+        server.sql("DELETE FROM n.t WHERE id=1")
+        world.same("without copies and checksums", "--append")
+        trial.passed, trial.failed = trial.passed + aside.passed, trial.failed + aside.failed
 
 
 def bylog(trial) -> None:
     commands.command()
-    for step in loaded, killed, rotated, interrupted, waited, refused, altered, either, either_forever, upgraded:
+    for step in loaded, killed, rotated, interrupted, waited, refused, altered, stopped, lives, upgraded, unsummed:
         step(trial)

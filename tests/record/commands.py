@@ -21,6 +21,8 @@ from dataclasses import dataclass, field
 from .server import die_with_parent
 
 ROOT = os.path.dirname(os.path.dirname(os.path.dirname(os.path.abspath(__file__))))
+PROGRAM = ""
+"""The program that reads logs for record/feed where its words name none; ./vrepl otherwise."""
 PATIENCE = 600
 SIGNALS = [signal.SIGINT, signal.SIGTERM, signal.SIGHUP]
 CHANGING = ["open", "write", "pwrite", "fsync", "ftruncate", "rename", "link", "unlink", "fchmod", "fchown"]
@@ -115,8 +117,7 @@ def _run(name: str, words: tuple[str, ...], prepare: Callable[[], None]) -> int:
     from recorder import ending
 
     module = command(name)
-    # a trial of the program's reading names the program
-    way = ["--by-recorder"] if name == "feed" and not {"--program", "--by-recorder"} & set(words) else []
+    way = ["--program", PROGRAM] if name == "feed" and PROGRAM and "--program" not in words else []
     sys.argv = [f"record/{name}", *way, *words]
     for number in SIGNALS:
         signal.signal(number, signal.default_int_handler)
@@ -140,7 +141,6 @@ def command(name: str = "feed"):
         import gettext  # noqa: F401
 
         import recorder.behind  # noqa: F401
-        import recorder.bylog  # noqa: F401
         import recorder.compacting  # noqa: F401
         import recorder.comparing  # noqa: F401
         import recorder.forever  # noqa: F401

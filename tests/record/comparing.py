@@ -20,7 +20,7 @@ from .server import Server, die_with_parent
 
 ROUNDS = 50
 MADE = {
-    "t": "id BIGINT PRIMARY KEY, v VARCHAR(40), n INT, d DECIMAL(9,2), f DOUBLE, s SET('a','b','c'), e TIMESTAMP(3) NULL",
+    "t": "id BIGINT PRIMARY KEY, v VARCHAR(40), n INT, d DECIMAL(9,2), f DECIMAL(20,9), s SET('a','b','c'), e TIMESTAMP(3) NULL",
     "u": "k VARBINARY(9), m SMALLINT, b BLOB, PRIMARY KEY (m, k)",
 }
 KEYS = {"t": ["id"], "u": ["m", "k"]}
@@ -350,7 +350,7 @@ class Engine:
 
     def __init__(self, trial) -> None:
         self._trial, self._over, self.fault, self._names = trial, threading.Event(), None, {}
-        trial.server.sql(f"{creation('filled')} CREATE TABLE filled.positions (stream INT PRIMARY KEY, position TEXT); "
+        trial.server.sql(f"SET sql_log_bin=0; {creation('filled')} CREATE TABLE filled.positions (stream INT PRIMARY KEY, position TEXT); "
                          "INSERT INTO filled.positions VALUES (0, ''), (1, ''); ")  # fmt: skip
         self._threads = [threading.Thread(target=self._run, args=(stream,), daemon=True) for stream in range(2)]
 
@@ -494,7 +494,7 @@ def of_two_servers(trial) -> None:
         servers = [options(trial, "one.cnf", trial.server.socket), options(trial, "other.cnf", other.socket)]
         feeds = [trial.path("moved0.feed"), trial.path("moved1.feed")]
         for file, shard, feed in zip(servers, SHARDS, feeds):
-            trial.made("record/feed", "--defaults-file", file, "--by-recorder", f"--shard={shard}", "--from-snapshot", "--out", feed, "moved.t")
+            trial.made("record/feed", "--defaults-file", file, "--program", trial.program, f"--shard={shard}", "--from-snapshot", "--out", feed, "moved.t")
         workflow = trial.workflow("moved.json", SHARDS, ["moved.t"])
         words = ["--program", trial.program, "--servers", ",".join(servers), "--json", workflow, *feeds, "moved", "moved"]
         over, seen = threading.Event(), []

@@ -26,8 +26,9 @@ def ended(trial) -> None:
     trial.server.sql("INSERT INTO kept.t SELECT seq, REPEAT('a', 2000) FROM kept.seq_3_to_3002; ")
     with Place(trial, "ended") as place:
         place.run()
-        moved, size = moved_for_an_append(trial, place), os.path.getsize(place.feed)
-        fine = 500 < moved_for_a_small and moved < moved_for_a_small + 2**14 < size / 20
+        moved, size = moved_for_an_append(trial, place), os.path.getsize(place.feed) + sum(os.path.getsize(path) for path in place.copies())
+        # (the program reads the feed, and the copies that stay, from the beginning)
+        fine = 500 < moved_for_a_small and moved < moved_for_a_small + 2**14 + size
         trial.check("ended, the cost of an append", None if fine else f"{moved_for_a_small}, and {moved} where there are {size} bytes")
         for step in odd_places, odd_notes, odd_words, odd_servers, odd_outputs, lost_connections, interrupted:
             step(trial, place)
@@ -197,7 +198,7 @@ def odd_servers(trial, place: Place) -> None:
 
 def odd_outputs(trial, place: Place) -> None:
     """Standard output and error that can't be written, or are closed, in a process of Python's own."""
-    begun = [os.path.join(ROOT, "record/feed"), "--by-recorder", *place.words]
+    begun = [os.path.join(ROOT, "record/feed"), "--program", trial.program, *place.words]
     told = {**os.environ, "PYTHONDONTWRITEBYTECODE": "1"}
     for name, redirected, status, text in [
         ("a full output", ">/dev/full", 1, b"feed: standard output can't be written: No space left on device\n"),
@@ -325,7 +326,7 @@ def interrupted(trial, place: Place) -> None:
         why = done.why_not_stopped("ended by SIGTERM: no feed was made") or (f"{place.left()} left" if place.left() else None)
         faults += [f"in a callback at reading {number}: {why}"] if why else []
     for _ in range(12):
-        with subprocess.Popen([os.path.join(ROOT, "record/feed"), "--by-recorder", "--from-snapshot", *words], stdout=subprocess.PIPE, stderr=subprocess.PIPE,
+        with subprocess.Popen([os.path.join(ROOT, "record/feed"), "--program", trial.program, "--from-snapshot", *words], stdout=subprocess.PIPE, stderr=subprocess.PIPE,
                               env={**os.environ, "PYTHONDONTWRITEBYTECODE": "1"}) as one:  # fmt: skip
             while one.poll() is None and not meets_signals(one.pid):
                 time.sleep(0.002)

@@ -63,16 +63,18 @@ class Place:
 
     def copy(self, trial, name: str) -> "Place":
         made = Place(trial, name)
-        for one in os.listdir(self.folder):
-            shutil.copy(os.path.join(self.folder, one), made.folder)
+        shutil.copytree(self.folder, made.folder, dirs_exist_ok=True)
         return made
 
     def data(self) -> bytes:
         return read_file(self.feed) if os.path.exists(self.feed) else b""
 
+    def copies(self) -> list[str]:
+        return [os.path.join(f"{self.feed}.logs", name) for name in os.listdir(f"{self.feed}.logs")]
+
     def left(self) -> list[str]:
         """Files that no recording leaves that ends by itself."""
-        return [name for name in os.listdir(self.folder) if name not in ("a.feed", "a.feed.json", "a.feed.lock")]
+        return [name for name in os.listdir(self.folder) if name not in ("a.feed", "a.feed.json", "a.feed.lock") and not name.endswith(".feed.logs")]
 
     def __enter__(self) -> "Place":
         return self
@@ -119,7 +121,7 @@ def why_not_resumed(place: Place, first: Place, second: Place, seen: bytes) -> s
 
 
 def synced(trial, first: Place, second: Place) -> None:
-    """In this order: the groups are written and synced, the note is written aside, synced, put in its place, and its folder
+    """In this order: the log's copy is synced, the groups are written and synced, the note is written aside, synced, put in its place, and its folder
     synced. So no power cut leaves a note of what isn't there."""
     with first.copy(trial, "synced") as place:
         log = os.path.join(trial.server.folder, "calls")
@@ -127,7 +129,7 @@ def synced(trial, first: Place, second: Place) -> None:
         calls = [tuple(line.split()) for line in read_file(log).decode().splitlines()]
         made = re.compile(re.escape(f".a.feed.json.{calls[0][0]}-") + "[0-9]+[.]new")
         named = [(call, "folder" if path == place.folder else made.sub("made", os.path.basename(path))) for _, call, path in calls]
-        wanted = [("pwrite", "a.feed"), ("fsync", "a.feed"), ("pwrite", "made"), ("fsync", "made"), ("rename", "made"), ("fsync", "folder")]
+        wanted = [("pwrite", "binlog.000001"), ("fsync", "binlog.000001"), ("pwrite", "a.feed"), ("fsync", "a.feed"), ("pwrite", "made"), ("fsync", "made"), ("rename", "made"), ("fsync", "folder")]
         trial.check("kept, synced", None if done.status == 0 and named == wanted else f"{done}, {named}")
         os.unlink(log)
 
@@ -209,7 +211,7 @@ def why_lost(trial, first: Place, second: Place, new: bytes, begun: list[str], n
     with begun_in(trial, first, begun, f"begun-{number}") as place:
         old = place.data()
         done = place.run(*begun, prepare=At(number, INTERRUPTIONS[name]))
-        if name == "ended" and (place.left() or not old and not place.data() and os.listdir(place.folder)):
+        if name == "ended" and (place.left() or not old and not place.data() and set(os.listdir(place.folder)) - {"a.feed.logs"}):
             return f"{os.listdir(place.folder)} left"
         if place.data() not in (old, new):
             return f"{len(place.data())} bytes that are neither feed"
@@ -296,7 +298,7 @@ def limited(trial, first: Place, second: Place) -> None:
             return why_wrong("", done) or why_not_resumed(place, first, second, whole(place.data()))
 
     size = len(second.data())
-    least = max(size, os.path.getsize(second.feed + ".json"))
+    least = max(size, os.path.getsize(second.feed + ".json"), *map(os.path.getsize, second.copies()))
     faults = commands.spread([*range(0, 1200, 60), *range(len(first.data()), size, 11)], why)
     trial.check("kept, limits of a file", faults[0] if faults else None)
     with Place(trial, "limited") as place:

@@ -186,7 +186,7 @@ def _parts(dump: bytes) -> dict[str, bytes]:
 
 
 def compare(trial, first: int, count: int) -> None:
-    """Rounds `first` and on: each table's rows, from the log and from a snapshot, are what the server prints of it. A check a round."""
+    """Rounds `first` and on: each table's rows, as the decoder reads the log, are what the server prints of it. A check a round."""
     for begin in range(first, first + count, BATCH):
         numbers = range(begin, min(begin + BATCH, first + count))
         metadata = ("FULL", "MINIMAL", "NO_LOG")[begin // BATCH % 3]
@@ -198,9 +198,8 @@ def compare(trial, first: int, count: int) -> None:
         tables = [f"{SCHEMA}.{name}" for name in made]
         workflow = trial.workflow("random.json", ["-"], tables)
         wanted, dumps = _parts(trial.selected(workflow, SCHEMA)), {}
-        for how in ["the log"], ["a snapshot", "--from-snapshot"]:
-            trial.recorded("--shard", "-", "--out", trial.path("random.feed"), *how[1:], *tables)
-            dumps[how[0]] = _parts(trial.made(trial.program, "run", workflow, trial.path("random.feed")))
+        trial.decoded("-", trial.path("random.feed"), *tables)
+        dumps["the log"] = _parts(trial.made(trial.program, "run", workflow, trial.path("random.feed.own")))
         for name, definition in made.items():
             others = [how for how, dump in dumps.items() if dump[name] != wanted[name]]
             trial.check(f"round {name[1:]}", f"other rows from {' and '.join(others)} of {definition}" if others else None)

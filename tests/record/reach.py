@@ -68,7 +68,7 @@ def _said(trial, *words: str, password: str = "") -> tuple[int, str]:
 def _records(trial, name: str, words: list[str], wanted: bytes, password: str = "") -> None:
     """Checks that a feed is recorded, that of the socket, and a workflow written."""
     feed = trial.path(f"far.{name.replace(' ', '-')}.feed")
-    status, told = _said(trial, "record/feed", *words, "--by-recorder", "--shard=-", "--out", feed, TABLE, password=password)
+    status, told = _said(trial, "record/feed", *words, "--program", trial.program, "--shard=-", "--out", feed, TABLE, password=password)
     why = f"{status} {told!r}"
     if not status and not told:
         with open(feed, "rb") as file:
@@ -79,14 +79,14 @@ def _records(trial, name: str, words: list[str], wanted: bytes, password: str = 
 
 
 def _stops(trial, name: str, words: list[str], line: str, password: str = PASSWORD) -> None:
-    for program, more in ("feed", ["--by-recorder", "--shard=-", "--out", trial.path("far.none.feed")]), ("workflow", ["--keyspace=ks", "--shards=-"]):
+    for program, more in ("feed", ["--program", trial.program, "--shard=-", "--out", trial.path("far.none.feed")]), ("workflow", ["--keyspace=ks", "--shards=-"]):
         status, told = _said(trial, f"record/{program}", *words, *more, TABLE, password=password)
         why = None if status == 1 and told.startswith(f"{program}: {line}") and told.count("\n") == 1 else f"{status} {told!r}"
         trial.check(f"record/{program} with {name}", why)
 
 
 def _is_usage(trial, name: str, words: list[str], line: str) -> None:
-    for program, more in ("feed", ["--by-recorder", "--shard=-", "--out", trial.path("far.none.feed")]), ("workflow", ["--keyspace=ks", "--shards=-"]):
+    for program, more in ("feed", ["--program", trial.program, "--shard=-", "--out", trial.path("far.none.feed")]), ("workflow", ["--keyspace=ks", "--shards=-"]):
         status, told = _said(trial, f"record/{program}", *words, *more, TABLE)
         trial.check(f"record/{program} with {name}", None if status == 2 and told.endswith(f"error: {line}\n") else f"{status} {told!r}")
 
@@ -99,7 +99,7 @@ def _options(trial, text: str) -> list[str]:
 
 def _feed_of(trial, path: str, name: str) -> bytes:
     feed = trial.path(f"{name}.far.feed")
-    status, told = _said(trial, "record/feed", "--socket", path, "--user=root", "--by-recorder", "--shard=-", "--out", feed, TABLE)
+    status, told = _said(trial, "record/feed", "--socket", path, "--user=root", "--program", trial.program, "--shard=-", "--out", feed, TABLE)
     if status:
         raise RuntimeError(told)
     with open(feed, "rb") as file:
@@ -171,14 +171,14 @@ def left_out(trial) -> None:
     todo = "make it utf8mb4_nopad_bin or VARBINARY, and record anew with --from-snapshot, or leave the table out (--skip)"
     stop = f"{order.format('a')}: {todo}; so are keys of far.t\n"
     told = "".join(f"{{0}}: warning: far.{name} is left out: {order.format(name)}\n" for name in "at")
-    for program, more in ("feed", ["--by-recorder", "--shard=-", "--out", trial.path("left.feed")]), ("workflow", ["--keyspace=ks", "--shards=-", "--rule=a=select * from a"]):
+    for program, more in ("feed", ["--program", trial.program, "--shard=-", "--out", trial.path("left.feed")]), ("workflow", ["--keyspace=ks", "--shards=-", "--rule=a=select * from a"]):
         words = [f"record/{program}", *how, *more]
         trial.check(f"record/{program} names the keys", None if (said := _said(trial, *words, *all_of)) == (1, f"{program}: {stop}") else f"{said}")
         trial.check(f"record/{program} skips", None if (said := _said(trial, *words, "--skip", *all_of)) == (0, told.format(program)) else f"{said}")
         said = _said(trial, *words, "--skip", "far.a", "far.t")
         trial.check(f"record/{program} skips not all", None if said[0] == 1 and said[1].startswith(f"{program}: no table is left: far.a ") else f"{said}")
     trial.server.sql("INSERT INTO far.a VALUES ('y'); INSERT INTO far.b VALUES (8)")
-    said = _said(trial, "record/feed", *how, "--by-recorder", "--shard=-", "--out", trial.path("left.feed"), "--append", "--skip", *all_of)
+    said = _said(trial, "record/feed", *how, "--program", trial.program, "--shard=-", "--out", trial.path("left.feed"), "--append", "--skip", *all_of)
     trial.check("record/feed goes on skipping", None if said == (0, told.format("feed")) else f"{said}")
     workflow = trial.path("left.json")
     with open(workflow, "wb") as file:

@@ -41,7 +41,7 @@ class Soak:
 
     def round(self, harm: str, seed: int) -> None:
         least = self.least(harm) if self.seen else 0
-        one = Command(*self.world.words(self.world.by, *(["--append"] if self.seen else []), "--forever"),
+        one = Command(*self.world.words(*(["--append"] if self.seen else []), "--forever"),
                       prepare=lambda: least and resource.setrlimit(resource.RLIMIT_FSIZE, (least, least)))  # fmt: skip
         if not least:
             one.awaits(lambda: one.has_said("going on"), harm)
@@ -74,17 +74,17 @@ class Soak:
         elif harm == "gone":
             shutil.rmtree(f"{self.world.by}.logs")
         elif harm == "purged":
-            run(*self.world.words(self.world.by, "--append"))
+            run(*self.world.words("--append"))
             self.server.sql("FLUSH BINARY LOGS")
-            run(*self.world.words(self.world.by, "--append"))
-            run(*self.world.words(self.world.own, "--append"))
+            run(*self.world.words("--append"))
+            self.world.decode("--append")
             self.server.purge(logs_of(self.world.trial)[-1])
         elif harm == "damaged":
             self.damaged()
 
     def damaged(self) -> None:
         """A bit of a copy is turned: that is refused, by a line that says what to do, which is enough."""
-        run(*self.world.words(self.world.by, "--append"))
+        run(*self.world.words("--append"))
         place = json.loads(read_file(f"{self.world.by}.json"))["place"]
         path = os.path.join(f"{self.world.by}.logs", place["log"])
         data = bytearray(read_file(path))
@@ -93,7 +93,7 @@ class Soak:
         with open(path, "r+b") as file:
             file.write(data)
         self.server.sql(f"INSERT INTO {SCHEMAS[0]}.whole (id) VALUES (7) ON DUPLICATE KEY UPDATE i8 = 1 - COALESCE(i8, 0)")
-        done = run(*self.world.words(self.world.by, "--append"))
+        done = run(*self.world.words("--append"))
         if done.why_not_stopped(f"take {self.world.by}.logs away"):
             self.faults.append(f"damaged: {done}")
         shutil.rmtree(f"{self.world.by}.logs")

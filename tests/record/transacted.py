@@ -103,7 +103,7 @@ def sealed(trial) -> None:
         workflow, world = aside.workflow("sealed.json", ["-"], ["x.t"]), World(aside, "sealed", "-", "x.t")
         done = aside.run(trial.program, "transcribe", "--shard", "-", "--schema", "x", workflow, *log_files_of(server))
         trial.check("an encrypted log's files", None if done.returncode == 1 and done.stderr.startswith(b"refused 153 file ") else f"{done}")
-        done = commands.run(*world.either())
-        commands.run(*world.words(world.own))
+        done = commands.run(*world.words())
+        world.decode()
         fine = done.status == 0 and world.changes(world.by) == world.changes(world.own) != []
         trial.check("an encrypted log by a connection", None if fine else f"{done}")

@@ -98,11 +98,11 @@ def over_files(trial) -> None:
         line = f"refused 156 file {logs[-1]} byte {os.path.getsize(logs[-1])}\n".encode()
         is_last = number == len(XA_FILES) - 1
         trial.check(f"XA over {number + 1} files", None if is_last or (done.returncode, done.stdout, done.stderr) == (1, b"", line) else repr(done))
-    feed, by_log, made = trial.path("xa.feed"), trial.path("xa_bylog.feed"), trial.path("xa_made.feed")
-    trial.recorded("--shard", "-", "--keyspace", "ks", "--by-recorder", "--out", feed, f"{SCHEMA}.t")
-    trial.recorded("--shard", "-", "--keyspace", "ks", "--out", by_log, f"{SCHEMA}.t")
+    feed, made = trial.path("xa.feed"), trial.path("xa_made.feed")
+    trial.recorded("--shard", "-", "--keyspace", "ks", "--out", feed, f"{SCHEMA}.t")
+    trial.decoded("-", feed, f"{SCHEMA}.t")
     trial.made(trial.program, "transcribe", "--save-to", made, *words, workflow, *logs)
-    shown = [trial.made(trial.program, "show", "--keyspace", "ks", "--shard", "-", of) for of in (feed, by_log, made)]
+    shown = [trial.made(trial.program, "show", "--keyspace", "ks", "--shard", "-", of) for of in (feed, f"{feed}.own", made)]
     trial.check("XA over files, as recorded", None if shown[0] == shown[1] == shown[2] else repr(shown))
     trial.same("XA over files, as the server has", trial.made(trial.program, "run", workflow, made), trial.selected(workflow, SCHEMA), 6)
     trial.server.sql(f"DROP DATABASE {SCHEMA}; RESET MASTER")
@@ -120,16 +120,18 @@ def transcribed(trial, rounds: int = ROUNDS) -> None:
                 _make(trial, connection, number, labels, r)
         tables = [f"{SCHEMA}.t{number}" for number in range(begin, begin + BATCH)]
         workflow, feed = trial.workflow("transcribed.json", ["-"], tables), trial.path("transcribed.feed")
-        trial.recorded("--shard", "-", "--keyspace", "ks", "--by-recorder", "--out", feed, *tables)
-        logs, made, by_log = log_files(trial), trial.path("made.feed"), trial.path("bylog.feed")
-        trial.recorded("--shard", "-", "--keyspace", "ks", "--out", by_log, *tables)
+        trial.recorded("--shard", "-", "--keyspace", "ks", "--out", feed, *tables)
+        trial.decoded("-", feed, *tables)
+        logs, made, snapshot = log_files(trial), trial.path("made.feed"), trial.path("transcribed.snapshot.feed")
         told = trial.made(trial.program, "transcribe", "--save-to", made, "--shard", "-", "--schema", SCHEMA, workflow, *logs)
         trial.check(f"transcribed {begin} tells nothing", repr(told) if told else None)
         rows = trial.made(trial.program, "run", workflow, made)
         trial.same(f"transcribed {begin} as recorded, of {len(logs)} files", rows, trial.made(trial.program, "run", workflow, feed), BATCH)
         trial.same(f"transcribed {begin} as the server has", rows, trial.selected(workflow, SCHEMA), BATCH)
-        shown = [trial.made(trial.program, "show", "--keyspace", "ks", "--shard", "-", of) for of in (feed, by_log)]
-        trial.check(f"transcribed {begin} by --by-log", None if shown[0] == shown[1] else "other groups than the recorder's")
+        shown = [trial.made(trial.program, "show", "--keyspace", "ks", "--shard", "-", of) for of in (feed, f"{feed}.own")]
+        trial.check(f"transcribed {begin} by the decoder", None if shown[0] == shown[1] else "other groups than the decoder's")
+        trial.recorded("--shard", "-", "--keyspace", "ks", "--from-snapshot", "--out", snapshot, *tables)
+        trial.same(f"transcribed {begin}, a snapshot", trial.made(trial.program, "run", workflow, snapshot), rows, BATCH)
         ends = {_end(trial.made(trial.program, "show", "--keyspace", "ks", "--shard", "-", of)) for of in (feed, made)}
         trial.check(f"transcribed {begin} up to the same position", repr(ends) if len(ends) > 1 else None)
         trial.server.sql(f"DROP DATABASE {SCHEMA}; RESET MASTER; SET GLOBAL binlog_row_metadata=FULL, log_bin_compress=0")

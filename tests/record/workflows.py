@@ -17,10 +17,11 @@ def untold(trial) -> None:
     trial.server.sql("CREATE DATABASE u; CREATE TABLE u.t (id INT PRIMARY KEY, a INT, b TEXT, c INT, UNIQUE both_ (id, c), UNIQUE one (a), UNIQUE part (b(3)));"
                      " CREATE TABLE u.`ks.t` (id INT PRIMARY KEY); ")  # fmt: skip
     feed, how = trial.path("untold.feed"), ["--socket", trial.server.socket, "--user", "root"]
-    name = "feed: warning: table ks.t: a workflow of keyspace ks takes it for t (docs/OPERATE.md, 'What a log doesn't say')\n"
     index = {one: f": warning: {UNIQUE.format(one, 'u.t')}\n" for one in ("one", "part")}
-    for shard, wanted in ("-", name), ("0", name), ("-80", name + "feed" + index["one"] + "feed" + index["part"]):
-        done = trial.record(f"--shard={shard}", "--from-snapshot", "--out", feed, "u.t", "u.ks.t")
+    done = trial.record("--shard=-", "--from-snapshot", "--out", feed, "u.t", "u.ks.t")
+    trial.check("a name with a dot", None if done.returncode == 1 and b"feed: a table's name that isn't plain (ks.t) in u: " in done.stderr else f"{done}")
+    for shard, wanted in ("-", ""), ("0", ""), ("-80", "feed" + index["one"] + "feed" + index["part"]):
+        done = trial.record(f"--shard={shard}", "--from-snapshot", "--out", feed, "u.t")
         trial.check(f"warnings of shard {shard}", None if (done.returncode, done.stderr.decode()) == (0, wanted) else f"{done}")
     ways = {
         ("ks2", "-"): (0, ""),
@@ -109,10 +110,10 @@ def sure(trial) -> None:
     kept = dict.fromkeys(ways, 3) | {"a list": 2}
     for name, said in ways.items():
         workflow = trial.workflow("unsure.json", ["-"], ["v.t", "v.plain"], "--vindex=t=id:reverse_bits", "--vindex=plain=id:reverse_bits", *said)
-        smaller, feed = trial.path("sure.json"), trial.path("sure.feed")
+        smaller, feed = trial.path("sure.json"), trial.path("sure.feed.own")
         statements = trial.made("record/select", "--vtgate", smaller, workflow, "v").decode()
         wanted = trial.server.sql(statements).stdout
-        trial.recorded("--shard", "-", "--out", feed, "--from-snapshot", "w.t", "w.plain")
+        trial.decoded("-", trial.path("sure.feed"), "w.t", "w.plain")
         trial.same(f"sure columns, {name}", trial.made(trial.program, "run", smaller, feed), wanted, 10)
         columns = {line.count(b"\t") + 1 for line in wanted.split(b"table plain\n")[0].splitlines()[1:]}
         trial.check(f"sure columns, {name}, are so many", None if columns == {kept[name]} else f"{columns}")
@@ -121,6 +122,6 @@ def sure(trial) -> None:
             alike = json.load(one)["tables"] == json.load(other)["tables"]
         trial.check(f"sure columns, {name}, of the same tables", None if alike else "others")
     trial.server.sql("UPDATE w.t SET v='moved' WHERE id=3")
-    trial.recorded("--shard", "-", "--out", feed, "--append", "w.t", "w.plain")
+    trial.decoded("-", trial.path("sure.feed"), "--append", "w.t", "w.plain")
     trial.check("a text that differs", None if trial.made(trial.program, "run", smaller, feed) != wanted else "it doesn't")
     trial.server.sql("DROP DATABASE v; DROP DATABASE w")

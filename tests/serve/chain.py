@@ -96,7 +96,8 @@ class Chain:
         for source, schema in zip(self.sources, SCHEMAS):
             source.sql(f"CREATE DATABASE {schema} CHARACTER SET utf8mb4; USE {schema}; {TABLES}")
         self.feeds = [trial.path(f"{schema}.feed") for schema in SCHEMAS]
-        self.recorders = [Recorder(source, feed, shard, *(f"{schema}.{name}" for name in NAMES)) for source, feed, shard, schema in zip(self.sources, self.feeds, SHARDS, SCHEMAS)]
+        self.recorders = [Recorder(source, feed, shard, *(f"{schema}.{name}" for name in NAMES), program=trial.program)
+                          for source, feed, shard, schema in zip(self.sources, self.feeds, SHARDS, SCHEMAS)]  # fmt: skip
         self.targets, self.plans, self.schemas = [], [], []
 
     def begin(self) -> None:

@@ -23,7 +23,7 @@ def tried(trial) -> None:
     with Server(41) as server:
         server.sql(TABLES)
         feed, names = trial.path("shop.feed"), ["shop.customer", "shop.orders"]
-        with Recorder(server, feed, "-", *names):
+        with Recorder(server, feed, "-", *names, program=trial.program):
             plan = workflow(server, trial.path("shop.json"), "shop", ["-"], names)
             with Target(trial.live, trial.path("shop.checkpoint"), plan, [feed]) as target:
                 awaits(lambda: target.is_well() and target.has_all() and target.state()["tables"][0]["rows"] == [2500], "all rows")

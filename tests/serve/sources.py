@@ -11,10 +11,11 @@ OWN = "/usr/bin/python3"
 
 
 class Recorder:
-    """Use it with `with`: it is killed behind that, if it hasn't ended."""
+    """Use it with `with`: it is killed behind that, if it hasn't ended. The program reads the log, ./vrepl where none is named."""
 
-    def __init__(self, server, feed: str, shard: str, *tables: str) -> None:
-        self._words = [OWN, os.path.join(ROOT, "record/feed"), "--socket", server.socket, "--user", "root", f"--shard={shard}", "--forever", "--out", feed]
+    def __init__(self, server, feed: str, shard: str, *tables: str, program: str | None = None) -> None:
+        self._words = [OWN, os.path.join(ROOT, "record/feed"), "--socket", server.socket, "--user", "root", f"--shard={shard}", "--forever", "--out", feed,
+                       *(["--program", program] if program else [])]  # fmt: skip
         self._tables, self.feed, self.process, self.said = tables, feed, None, feed + ".said"
 
     def begin(self, patience: float = 600) -> None:

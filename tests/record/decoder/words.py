@@ -2,8 +2,7 @@
 import re
 from dataclasses import dataclass
 
-Name = tuple[str, str]
-"""A table: its schema, and its name."""
+from recorder.catalogue import Name
 
 # executable comments count as what stands in them, others as nothing
 _COMMENT = re.compile(r"/\*M?!\d*(.*?)\*/|/\*.*?\*/|--[ \t\n][^\n]*|--$|#[^\n]*", re.S)

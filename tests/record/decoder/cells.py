@@ -8,11 +8,12 @@ from collections.abc import Callable
 from dataclasses import dataclass
 from datetime import UTC, datetime
 
-from .kinds import Kind
+from recorder.catalogue import Printing
+from recorder.events import Bytes
+from recorder.kinds import Kind
+
 from .numbers import decimal_reader, decimal_size, fixed_text, float_text
 
-Bytes = bytes | memoryview
-"""Bytes, or where they are many a view of them."""
 Reader = Callable[[Bytes, int], tuple[Bytes, int]]
 """Reads a value that isn't NULL: answers what the server prints, and where the value ends.
 IndexError or struct.error where the bytes end inside the value."""
@@ -28,21 +29,6 @@ class LogType:
 
     number: int
     meta: bytes
-
-
-@dataclass(frozen=True)
-class Printing:
-    """What the log doesn't say of a column, from the catalogue."""
-
-    kind: Kind
-    width: int = 0
-    """Of ZEROFILL the characters at least, of BINARY the bytes, of YEAR the digits."""
-    places: int | None = None
-    """Of a FLOAT or DOUBLE the digits behind the point, as of FLOAT(7,2), where they were said."""
-    labels: tuple[bytes, ...] = ()
-    """Of ENUM and SET."""
-    comma: bytes = b","
-    """What parts the labels of a SET, in its character set."""
 
 
 INTEGERS = {

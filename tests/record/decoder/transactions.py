@@ -6,19 +6,22 @@ the log, or is dropped here.
 """
 import struct
 import zlib
-from collections.abc import Iterable, Iterator, Sequence
+from collections.abc import Iterable, Iterator
 from typing import NamedTuple
 
-from .catalogue import Table
-from .cells import Bytes, UnknownType
-from .events import DELETES, IGNORABLE, UPDATES, WRITES, Event, GtidEvent, LogEvent, QueryEvent, TableMap, read_rows_head, read_table_map
-from .groups import Changes
-from .messages import LongRow
-from .position import Gtid, Position
+from recorder.catalogue import Name, Table
+from recorder.events import Bytes, Event, GtidEvent, LogEvent
+from recorder.messages import LongRow
+from recorder.position import Gtid, Position
+from recorder.server import Place
+from recorder.snapshot import check_key
+from recorder.stop import AGAIN, BEHIND, Prepared, Stop
+
+from .bodies import DELETES, IGNORABLE, UPDATES, WRITES, QueryEvent, TableMap, read_rows_head, read_table_map
+from .cells import UnknownType
+from .changes import Changes
 from .rowcode import AFTER, BEFORE, LARGE, Rows
-from .server import Place
-from .statements import Does, Name, Statement, read_statement
-from .stop import AGAIN, BEHIND, Prepared, Stop
+from .statements import Does, Statement, read_statement
 
 
 class Transaction(NamedTuple):
@@ -300,15 +303,6 @@ class Transactions:
                 self._open.changes.add(layout.table, layout.rows.changes(*IMAGES[kind])(data, at))
         except LongRow as fault:
             raise Stop(str(fault), f"in {found.schema}.{found.table} {self._where()}", "leave the table out") from None
-
-
-def check_key(table: Table, row: Sequence[Bytes | None], where: str) -> None:
-    """Stops at a key that a collation which ignores blanks at the end orders or compares otherwise than bytes."""
-    for at in table.key:
-        value = row[at]
-        if table.columns[at].pads and value and (value[-1:] == b" " or min(value) < 0x20):
-            raise Stop(f"a key of {table.schema}.{table.name} with a blank at its end or a control character, {bytes(value[:40])!r},", where,
-                       f"make the collation of column {table.columns[at].name} a _nopad_bin one, or VARBINARY, and {BEHIND}")  # fmt: skip
 
 
 def _cut(text: str) -> str:

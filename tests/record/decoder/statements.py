@@ -7,8 +7,10 @@ in which such statements name their tables, and that of `alterations`.
 from dataclasses import dataclass
 from enum import Enum, auto
 
+from recorder.catalogue import Name
+
 from .alterations import has_one_meaning, leaves_key, leaves_table
-from .words import Name, Walk, words_of
+from .words import Walk, words_of
 
 
 class Does(Enum):

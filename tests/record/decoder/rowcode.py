@@ -10,12 +10,14 @@ from collections.abc import Callable, Iterator
 from itertools import chain
 from typing import NamedTuple
 
-from .cells import (CLOCK, DATES, DAYS, INTEGERS, MONTHS, SECONDS, Bytes, LogType, Printing, Reader, Texts, counted_size, fraction_bytes, fractions, reader,
-                    real_type)  # fmt: skip
-from .kinds import Kind
-from .messages import MOST_OF_ROW, LongRow
+from recorder.catalogue import Printing
+from recorder.events import Bytes
+from recorder.kinds import Kind
+from recorder.messages import MOST_OF_ROW, LongRow
+from recorder.wire import SIZES, sized
+
+from .cells import CLOCK, DATES, DAYS, INTEGERS, MONTHS, SECONDS, LogType, Reader, Texts, counted_size, fraction_bytes, fractions, reader, real_type
 from .numbers import decimal_reader, decimal_size
-from .wire import SIZES, sized
 
 LARGE = 2**20
 """The bytes of a row from which on its message is in parts."""
