@@ -49,12 +49,17 @@ class Lent(Lock):
 
     def _lock(self) -> None:
         if self._is_back:
+            # (before it is back, so that who asks at that moment sees that it is lent)
+            self._lend()
             self._last = time.monotonic() + MOST_PAUSE
             while not self._comes_back():
                 with Free():
                     time.sleep(PAUSE)
         else:
             super()._lock()
+            self._lend()
+
+    def _lend(self) -> None:
         with suppress(OSError):
             _hold(self._file, LENT)
 
