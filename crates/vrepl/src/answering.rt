@@ -122,11 +122,11 @@ fn report_form_of(words: &Words<'_>) -> ReportForm
 /// What tells how far the command is, where it may take seconds.
 fn teller_of<'r, T: Threads>(rt: &'r HostRuntime, threads: &T, words: &Words<'_>) -> Teller<'r> {
     match words {
-        Words::Resume(words) => Teller::of(rt, threads, words),
-        Words::Join(words) => Teller::of(rt, threads, words),
-        Words::Vdiff(words) => Teller::of(rt, threads, words),
-        Words::Check(words) => Teller::of(rt, threads, words),
-        Words::Compact(words) => Teller::of(rt, threads, words),
+        Words::Resume(words) => Teller::of_command(rt, threads, words),
+        Words::Join(words) => Teller::of_command(rt, threads, words),
+        Words::Vdiff(words) => Teller::of_command(rt, threads, words),
+        Words::Check(words) => Teller::of_command(rt, threads, words),
+        Words::Compact(words) => Teller::of_command(rt, threads, words),
         _ => Teller::silent(rt),
     }
 }
@@ -161,7 +161,7 @@ pub(crate) enum Asked<'a, 'w> {
 }
 
 /// Reads the inputs of such a command, and prints what it makes of them.
-pub(crate) fn run_answering<'w, T: Threads + Wait + Sync>(
+fn run_answering<'w, T: Threads + Wait + Sync>(
     rt: &HostRuntime,
     threads: &T,
     teller: &Teller<'_>,
@@ -197,9 +197,7 @@ fn read_asked<'a, 'w>(
             let feed = read_input(rt, &Untold, InputName::of_word(words.feed))?;
             Ok(Asked::Show(words, feed))
         }
-        Words::Step(words) => {
-            Ok(Asked::Step(read_steps(rt, words)?))
-        }
+        Words::Step(words) => { Ok(Asked::Step(read_steps(rt, words)?)) }
         Words::Run(words) => {
             let course = course_of(words);
             let form = words.feed_form;
@@ -207,9 +205,7 @@ fn read_asked<'a, 'w>(
             let inputs = read_run(rt, course, form, words.workflow, &words.feeds, until)?;
             Ok(Asked::Run(inputs))
         }
-        Words::Save(words) => {
-            Ok(Asked::Save(words.strict, read_steps(rt, &words.step)?))
-        }
+        Words::Save(words) => { Ok(Asked::Save(words.strict, read_steps(rt, &words.step)?)) }
         Words::Resume(words) => {
             let step = &words.step;
             let inputs = read_resume(

@@ -169,7 +169,7 @@ pub(crate) struct Teller<'r> {
 
 impl<'r> Teller<'r> {
     /// That of a command that lasts. Nothing is told where memory or a thread is refused.
-    pub(crate) fn of<T: Threads, L: Lasting>(
+    pub(crate) fn of_command<T: Threads, L: Lasting>(
         rt: &'r HostRuntime,
         threads: &T,
         command: &L,
