@@ -1,30 +1,16 @@
 //! The texts, by their numbers.
 
 ghost use Rattle.std.specs.Prelude.{◌≡◌, option_map};
-ghost use Rattle.refusal_words.specs.Texts.{explained, has_text, text_of_number, text_of_others};
+ghost use Rattle.refusal_words.specs.Texts.{explained, has_text, text_of_number};
 
-use crate::list::LIST;
-use crate::{feed, files, logs, position, steps, target, wire, workflow};
-
-/// The text of a number that isn't of a server's logs.
-fn text_of_others(number: u64) -> Option<&'static str>
-    ensures { option_map (λ text. text.now) result ≡ text_of_others number }
-{
-    wire::text_of(number)
-        .or(position::text_of(number))
-        .or(workflow::text_of(number))
-        .or(target::text_of(number))
-        .or(feed::text_of(number))
-        .or(steps::text_of(number))
-        .or(files::text_of(number))
-}
+use crate::list::{LIST, TEXTS};
 
 /// What is said of a number: its line in `LIST`, an empty line, what it means, the usual causes and what to
 /// do next. Each line ends with LF and has at most 80 bytes. None for any other number.
 pub fn text_of(number: u64) -> Option<&'static str>
     ensures { option_map (λ text. text.now) result ≡ text_of_number number }
 {
-    text_of_others(number).or(logs::text_of(number))
+    TEXTS.iter().find(|it| it.0 == number).map(|it| it.1)
 }
 
 /// Whether something is said of a number.

@@ -1,139 +1,82 @@
 //! Numbers 1 to 25: bytes that aren't the messages which they should be.
 
-ghost use Rattle.std.specs.Prelude.{◌≡◌, option_map};
-ghost use Rattle.refusal_words.specs.Texts.{text_among, wire_texts};
-
-/// The text of one of these numbers.
-pub(crate) fn text_of(number: u64) -> Option<&'static str>
-    ensures { option_map (λ text. text.now) result ≡ text_among wire_texts number }
-{
-    match number {
-        1 => Some(ENDS_INSIDE),
-        2 => Some(LONG_VARINT),
-        3 => Some(GROUP_WIRE_TYPE),
-        4 => Some(BAD_WIRE_TYPE),
-        5 => Some(BAD_FIELD_NUMBER),
-        11 => Some(ROW_IS_NO_LIST),
-        12 => Some(LENGTHS_PAST_VALUES),
-        13 => Some(MANY_COLUMNS),
-        14 => Some(LONG_ROW),
-        21 => Some(EVENT_IS_NO_LIST),
-        22 => Some(MESSAGE_TWICE),
-        23 => Some(EVENT_TYPE),
-        24 => Some(NOT_UTF8),
-        25 => Some(PARTIAL_ROW),
-        _ => None,
-    }
-}
-
-pub const ENDS_INSIDE: &str = "\
-1    a message's bytes end inside a field
-
+// Each number, what it means in a line, behind the spaces that lead to its column, and what more is said of it.
+macro_rules! these {
+    ($made:ident $($before:tt)*) => {
+        $made! { $($before)*
+1 "    a message's bytes end inside a field" "\
 The bytes of a message, or of a row's lengths, end inside a field. It stands
 as a cause behind 82.
 Usual causes: a length in front of a message, or of a part of it, is too small
 or too large; the bytes were cut and put together again.
 What to do: write each message as protobuf's SerializeToString gives it, behind
 its length as a varint. Record the feed again where it was changed.
-";
-
-pub const LONG_VARINT: &str = "\
-2    a number of the wire is too long
-
+"
+2 "    a number of the wire is too long" "\
 A number has more than ten bytes that say that another one follows, or is past
 64 bits. It stands as a cause behind 82.
 Usual causes: the bytes are no protobuf; a length is wrong, so that reading
 goes on amid a message; a byte was changed.
 What to do: see 1.
-";
-
-pub const GROUP_WIRE_TYPE: &str = "\
-3    a field of the wire is a group
-
+"
+3 "    a field of the wire is a group" "\
 A field has the wire type 3 or 4, a group, which no message of a feed has. It
 stands as a cause behind 82.
 Usual causes: the bytes are no protobuf, or reading goes on amid a message
 because a length is wrong.
 What to do: see 1.
-";
-
-pub const BAD_WIRE_TYPE: &str = "\
-4    a field of the wire has a type that there isn't
-
+"
+4 "    a field of the wire has a type that there isn't" "\
 A field has the wire type 6 or 7, which protobuf doesn't have. It stands as a
 cause behind 82.
 Usual causes: the bytes are no protobuf, as hexadecimal text without --hex, or
 reading goes on amid a message because a length is wrong.
 What to do: give --hex with hexadecimal text; else see 1.
-";
-
-pub const BAD_FIELD_NUMBER: &str = "\
-5    a field of the wire has a number that no field has
-
+"
+5 "    a field of the wire has a number that no field has" "\
 A field has the number 0, or one above 2^29 - 1. It stands as a cause behind
 82.
 Usual causes: bytes of zeros, as a file has that was made longer or was lost
 amid a write; a length that is wrong.
 What to do: record the feed again, or cut it behind its last whole message.
-";
-
-pub const ROW_IS_NO_LIST: &str = "\
-11   a row isn't a list of fields
-
+"
+11 "   a row isn't a list of fields" "\
 A row isn't a list of protobuf fields, or its lengths aren't numbers. The
 program prints the field's own fault, 1 to 5, in place of it.
 Usual causes: a recorder that wrote rows by hand.
 What to do: write rows as query.proto's Row. See 1.
-";
-
-pub const LENGTHS_PAST_VALUES: &str = "\
-12   a row's lengths reach past its values
-
+"
+12 "   a row's lengths reach past its values" "\
 The lengths of a row's columns are more than its values have bytes. It stands
 as a cause behind 82.
 Usual causes: a recorder that counts characters and not bytes, or that gives a
 NULL another length than -1.
 What to do: write each length in bytes, -1 for NULL, and record the feed again.
-";
-
-pub const MANY_COLUMNS: &str = "\
-13   a row has more than 256 columns
-
+"
+13 "   a row has more than 256 columns" "\
 A row has more than 256 columns. It stands as a cause behind 82.
 Usual causes: a very wide table; lengths that were written twice.
 What to do: leave the table out of the recording. A table of a workflow has at
 most 256 columns.
-";
-
-pub const LONG_ROW: &str = "\
-14   a row has more than 2^24 bytes
-
+"
+14 "   a row has more than 2^24 bytes" "\
 A row has more than 2^24 bytes (16 MiB). It stands as a cause behind 82.
 Usual causes: a large BLOB or TEXT in a row.
 What to do: leave the table out of the recording.
-";
-
-pub const EVENT_IS_NO_LIST: &str = "\
-21   an event isn't a list of fields
-
+"
+21 "   an event isn't a list of fields" "\
 An event, or a message in it, isn't a list of protobuf fields. The program
 prints the field's own fault, 1 to 5, in place of it.
 Usual causes: see 1.
 What to do: see 1.
-";
-
-pub const MESSAGE_TWICE: &str = "\
-22   an event has a message twice
-
+"
+22 "   an event has a message twice" "\
 An event has a message twice that it may have once, as two row events or two
 rows after a change. protobuf would merge them. It stands as a cause behind 82.
 Usual causes: two serialized events were put one behind the other as one.
 What to do: put each event into a VStreamResponse as an event of its own.
-";
-
-pub const EVENT_TYPE: &str = "\
-23   an event's type isn't read
-
+"
+23 "   an event's type isn't read" "\
 An event is of a type that isn't read: ` type n` says which. It stands as a
 cause behind 82.
 Usual causes: statements (6 to 10) in place of rows, a journal of resharding
@@ -141,24 +84,23 @@ Usual causes: statements (6 to 10) in place of rows, a journal of resharding
 that was begun at the empty position.
 What to do: record from a position on, as docs/OPERATE.md shows, with row based
 logging. Behind a resharding record each new shard from empty tables on.
-";
-
-pub const NOT_UTF8: &str = "\
-24   a text of an event isn't UTF-8
-
+"
+24 "   a text of an event isn't UTF-8" "\
 A position, or the name of a table, a column, a keyspace or a shard, isn't
 UTF-8. It stands as a cause behind 82.
 Usual causes: a recorder that wrote names in another character set.
 What to do: write names and positions as UTF-8, and record the feed again.
-";
-
-pub const PARTIAL_ROW: &str = "\
-25   a row change isn't whole
-
+"
+25 "   a row change isn't whole" "\
 A row change has another field than the row before and the row after: an image
 that isn't whole. It stands as a cause behind 82.
 Usual causes: binlog_row_image isn't FULL, or binlog_row_value_options has
 PARTIAL_JSON, so that a change has some of its columns alone.
 What to do: set binlog_row_image=FULL and an empty binlog_row_value_options at
 the source, and record from empty tables on.
-";
+"
+        }
+    };
+}
+
+pub(crate) use these;
