@@ -1,0 +1,2 @@
+-- What private code alone needs.
+pub mod Portions
