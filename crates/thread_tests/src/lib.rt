@@ -4,6 +4,8 @@
 #[cfg(test)]
 mod commands;
 #[cfg(test)]
+mod dumps;
+#[cfg(test)]
 mod feeds;
 #[cfg(test)]
 mod rounds;
