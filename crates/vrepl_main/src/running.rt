@@ -21,7 +21,7 @@ ghost use Rattle.vrepl_main.specs.RunIsRight.{WritesRight};
 ghost use Rattle.vrepl_main.specs.RunSays.{WritesSaid};
 
 use crate::at_once::open_at_once;
-use crate::dumping::write_rows;
+use crate::dumping::{write_rows, write_rows_in_threads};
 use crate::ending::end_opened;
 use crate::given::{GivenFeed, given_feeds};
 use crate::named_inputs::{RunCourse, RunInputs};
@@ -128,7 +128,8 @@ fn print_run<R: Threads + Wait + Sync, G: Progress + Sync, W: Out>(
         return Err(RunFault::Given(CommandRefusal::Memory));
     };
     let (plan, fed) = filled_board(rt, alloc, inputs, gate, &given)?;
-    match print_rows(out, &plan, fed.board()) {
+    let threading = inputs.course.threading;
+    match print_rows(rt, alloc, threading, out, &plan, fed.board()) {
         Ok(()) => {
             forget(fed);
             Ok(())
@@ -137,8 +138,11 @@ fn print_run<R: Threads + Wait + Sync, G: Progress + Sync, W: Out>(
     }
 }
 
-/// Prints the dump of a board's rows.
-fn print_rows<W: Out>(
+/// Prints the dump of a board's rows, with the lines made in this thread or in several.
+fn print_rows<R: Threads + Sync, W: Out>(
+    rt: &R,
+    alloc: Global,
+    threading: Threading,
     out: &mut W,
     plan: &Plan,
     board: &Board<'_>,
@@ -146,7 +150,10 @@ fn print_rows<W: Out>(
     ensures printed { Prints result (W.written out.old) (W.written out.new) (dump_of plan.now (all_rows board.now.rows)) }
     ensures refused { IfErr result IsUnwritten }
 {
-    write_rows(out, plan, board)?;
+    match threading {
+        Threading::Alone => write_rows(out, plan, board)?,
+        Threading::Parallel => write_rows_in_threads(rt, alloc, out, plan, board)?,
+    }
     Ok(())
 }
 
