@@ -27,7 +27,7 @@ use stream_core::{CoreAnswer, CoreRefusal, Cursor, Step};
 fn know_group(group: &Prepared<'_>)
     ensures { IsPrepared group.now }
 {
-    group.touches();
+    group.is_prepared();
 }
 
 impl<'h> Stream<'h> {

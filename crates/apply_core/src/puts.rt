@@ -145,7 +145,10 @@ fn puts_of_group(
     ensures rising { IfOk result (λ puts. IsRising key_cmp puts.items) }
 {
     keys_tie_where_they_are_equal();
-    let changes = lent_changes(alloc, marks, group.touches())?;
+    // (for its contract: what is true of every prepared group)
+    group.is_prepared();
+    let touches = group.touches(alloc)?;
+    let changes = lent_changes(alloc, marks, touches.as_slice())?;
     let last = last_touches(alloc, changes)?;
     let puts = owned_changes(alloc, group.plan(), last)?;
     Ok(puts)

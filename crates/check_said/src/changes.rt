@@ -12,10 +12,10 @@ use feed_check::{Checked, Finding, Skipped, group_of, kind_text, name_of_table, 
 use json_pieces::{Line, Piece, put_comma_if, put_pieces};
 use pk_copy::KeyPart;
 use printing::Out;
-use source_feed::Prepared;
+use source_feed::Touched;
 
 /// A group's position, null where there is no such group.
-pub(crate) fn position_piece<'p>(group: Option<&'p Prepared<'_>>) -> Piece<'p>
+pub(crate) fn position_piece<'p>(group: Option<&'p Touched<'_>>) -> Piece<'p>
     ensures { piece_text result ≡ compact_text (position_data (option_copied group.entry)) }
 {
     match group {

@@ -11,7 +11,7 @@ use feed_check::{
 };
 use filter_rule::Table;
 use gtid_set::GtidSet;
-use source_feed::Prepared;
+use source_feed::Touched;
 use std::alloc::{AllocError, Global};
 use std::marker::Model;
 
@@ -268,7 +268,7 @@ fn start_item<'c>(i: usize, position: &'c GtidSet, rows: usize) -> Item<'c>
 fn push_start<'c>(
     told: &mut Vec<Item<'c>>,
     i: usize,
-    first: Option<&'c Prepared<'_>>,
+    first: Option<&'c Touched<'_>>,
 ) -> Result<(), AllocError>
     ensures { OnOk result (told.new.items ≡ told.old.items ++ start_items i (option_copied first.entry)) }
 {

@@ -89,7 +89,8 @@ impl<'h> LeftRows<'h> {
         ensures left { OnOk result ((history : List PreparedValue) (n : ℕ) → slice_get history n ≡ Some group.now → IsLeft history n self.old → IsLeft history (n + 1) self.new) }
         ensures unchanged { OnErr result (self.new ≡ self.old) }
     {
-        let changes = changes_of(alloc, group.touches())?;
+        let touches = group.touches(alloc)?;
+        let changes = changes_of(alloc, touches.as_slice())?;
         match self.rows.apply(alloc, 0, changes) {
             Ok(_) => Ok(()),
             Err(TableFault::Memory) => Err(AllocError),

@@ -6,7 +6,7 @@ ghost use Rattle.std.specs.String.{string_bytes};
 ghost use Rattle.feed_check.specs.Base.{base_rows, is_put};
 ghost use Rattle.feed_check.specs.Report.{base_text, start_text};
 
-use source_feed::{Prepared, Touch};
+use source_feed::{Touch, Touched};
 use std::alloc::{AllocError, Global};
 
 /// Whether each touch puts a row.
@@ -18,7 +18,7 @@ fn are_puts(touches: &[Touch<'_>]) -> bool
 
 /// How many rows a group inserts, where it does nothing else; 0 where it takes a row away, or has none. Changes of tables
 /// that the plan lacks don't count.
-pub fn base_rows(group: &Prepared<'_>) -> usize
+pub fn base_rows(group: &Touched<'_>) -> usize
     ensures { result ≡ base_rows group.now }
 {
     let touches = group.touches();
@@ -37,7 +37,7 @@ fn base_text(alloc: Global, rows: usize) -> Result<String, AllocError>
 }
 
 /// Where a feed starts that begins with this group: its position, and how many rows it has if it is a base.
-pub(crate) fn start_text(alloc: Global, group: &Prepared<'_>) -> Result<String, AllocError>
+pub(crate) fn start_text(alloc: Global, group: &Touched<'_>) -> Result<String, AllocError>
     ensures { IfOk result (λ text. string_bytes text ≡ start_text group.now) }
 {
     let position = group.position();

@@ -19,7 +19,7 @@ use filter_rule::{Plan, Table};
 use pace::{Meter, Portions};
 use pk_copy::LentKey;
 use row_view::RowBytes;
-use source_feed::{Feed, FeedFault, Image, Prepared, Put, Touch, read_groups};
+use source_feed::{Feed, FeedFault, Image, Put, Touch, Touched, read_groups};
 use std::alloc::{AllocError, Global};
 use std::marker::Model;
 use std::sync::Arc;
@@ -29,7 +29,7 @@ use std::sync::Arc;
 #[derive(Drop)]
 pub struct Checked<'h> {
     plan: Arc<Plan>,
-    groups: Vec<Arc<Prepared<'h>>>,
+    groups: Vec<Arc<Touched<'h>>>,
     image: Image<'h>,
     findings: Vec<Finding<'h>>,
     moves: Vec<Finding<'h>>,
@@ -60,7 +60,7 @@ fn prepare_all<'h, M: Meter>(
     alloc: Global,
     feed: &Feed<'h>,
     meter: &M,
-) -> Result<Vec<Arc<Prepared<'h>>>, FeedFault>
+) -> Result<Vec<Arc<Touched<'h>>>, FeedFault>
     ensures { GivesUnless meant_of (λ groups. map arc_value groups.items) result (history_of feed.now) }
 {
     // (for its contract: a feed has fewer than 2^31 groups)
@@ -69,7 +69,8 @@ fn prepare_all<'h, M: Meter>(
     let mut portions = Portions::of(meter);
     for i in 0..feed.len() {
         let group = feed.prepare(alloc, number_at(i))?;
-        groups.push(group)?;
+        let touched = Touched::of(alloc, group)?;
+        groups.push(Arc::new(alloc, touched)?)?;
         portions.has_done_one();
     }
     portions.tell();
@@ -159,7 +160,7 @@ fn passes_in_table(touches: &[Touch<'_>], t: usize) -> bool
 }
 
 /// How many groups touch table `t`.
-fn touching(groups: &[Arc<Prepared<'_>>], t: usize) -> usize
+fn touching(groups: &[Arc<Touched<'_>>], t: usize) -> usize
     ensures { result ≡ touching t (map arc_value groups.now) }
 {
     let mut count = 0;
@@ -172,7 +173,7 @@ fn touching(groups: &[Arc<Prepared<'_>>], t: usize) -> usize
 }
 
 /// How many groups put a row of table `t` that passes the filter.
-fn passing(groups: &[Arc<Prepared<'_>>], t: usize) -> usize
+fn passing(groups: &[Arc<Touched<'_>>], t: usize) -> usize
     ensures { result ≡ passing_groups t (map arc_value groups.now) }
 {
     let mut count = 0;
@@ -185,7 +186,7 @@ fn passing(groups: &[Arc<Prepared<'_>>], t: usize) -> usize
 }
 
 /// The group at a place, from 0.
-fn group_at<'a, 'h>(groups: &'a [Arc<Prepared<'h>>], place: usize) -> Option<&'a Prepared<'h>>
+fn group_at<'a, 'h>(groups: &'a [Arc<Touched<'h>>], place: usize) -> Option<&'a Touched<'h>>
     ensures { option_copied result ≡ slice_get (map arc_value groups.now) place }
 {
     match groups.get(place) {
@@ -242,14 +243,14 @@ impl<'h> Checked<'h> {
     }
 
     /// The feed's groups.
-    pub(crate) fn groups(&self) -> &[Arc<Prepared<'h>>]
+    pub(crate) fn groups(&self) -> &[Arc<Touched<'h>>]
         ensures { map arc_value result.now ≡ self.now.history }
     {
         self.groups.as_slice()
     }
 
     /// The feed's group at a place, from 0.
-    pub fn group(&self, place: usize) -> Option<&Prepared<'h>>
+    pub fn group(&self, place: usize) -> Option<&Touched<'h>>
         ensures { option_copied result ≡ slice_get self.now.history place }
     {
         group_at(self.groups.as_slice(), place)

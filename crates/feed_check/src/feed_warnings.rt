@@ -13,7 +13,7 @@ use crate::warnings::{TOLD, push_note, push_warning};
 use filter_rule::Plan;
 use gtid_set::GtidSet;
 use shown_text::shown;
-use source_feed::Prepared;
+use source_feed::Touched;
 use std::alloc::{AllocError, Global};
 
 /// Whether a position is the first of its source.
@@ -30,7 +30,7 @@ pub fn is_start(position: &GtidSet) -> bool
 pub(crate) fn push_start_note(
     alloc: Global,
     i: usize,
-    group: Option<&Prepared<'_>>,
+    group: Option<&Touched<'_>>,
     text: &mut String,
 ) -> Result<(), AllocError>
     ensures { OnOk result (string_bytes text.new ≡ string_bytes text.old ++ start_note i (option_copied group.entry)) }

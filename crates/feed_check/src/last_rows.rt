@@ -9,14 +9,14 @@ use board_laws::kept_rows_are_one_list;
 use pace::{Meter, Portions};
 use pk_copy::LentKey;
 use row_view::RowBytes;
-use source_feed::{Image, Prepared};
+use source_feed::{Image, Touched};
 use std::alloc::{AllocError, Global};
 use std::sync::Arc;
 
 /// The rows that all groups leave, of those that pass. An error is want of memory.
 pub(crate) fn last_rows<'h, M: Meter>(
     alloc: Global,
-    groups: &[Arc<Prepared<'h>>],
+    groups: &[Arc<Touched<'h>>],
     meter: &M,
 ) -> Result<Image<'h>, AllocError>
     ensures { IfOk result (λ image. image ≡ rows_at_end (map arc_value groups.now)) }
@@ -25,7 +25,7 @@ pub(crate) fn last_rows<'h, M: Meter>(
     let mut image = Image::new(alloc);
     let mut portions = Portions::of(meter);
     for group in groups {
-        image.advance(alloc, group)?;
+        image.advance(alloc, group.group())?;
         portions.has_done_one();
     }
     portions.tell();

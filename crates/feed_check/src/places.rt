@@ -6,14 +6,14 @@ ghost use Rattle.std.specs.String.{string_bytes};
 ghost use Rattle.feed_check.specs.Report.{group_place_text, places_text};
 
 use crate::checked::Checked;
-use source_feed::Prepared;
+use source_feed::Touched;
 use std::alloc::{AllocError, Global};
 
 /// A group's position behind a word, if there is that group.
 pub(crate) fn place_text(
     alloc: Global,
     word: &str,
-    group: Option<&Prepared<'_>>,
+    group: Option<&Touched<'_>>,
 ) -> Result<String, AllocError>
     ensures { IfOk result (λ text. string_bytes text ≡ group_place_text word.now (option_copied group.entry)) }
 {

@@ -12,7 +12,7 @@ ghost use Rattle.feed_check.specs.Shared.{shared_among, touches_key};
 use crate::checked::Checked;
 use crate::keyed_rows::KeyedRows;
 use pk_copy::LentKey;
-use source_feed::{Prepared, Touch};
+use source_feed::{Touch, Touched};
 use std::alloc::{AllocError, Global};
 use std::marker::Model;
 use std::sync::Arc;
@@ -115,7 +115,7 @@ fn least_of_groups<'c, 'h>(
     others: &KeyedRows<'h, usize>,
     i: usize,
     best: Option<SharedKey<'c, 'h>>,
-    groups: &'c [Arc<Prepared<'h>>],
+    groups: &'c [Arc<Touched<'h>>],
 ) -> Option<SharedKey<'c, 'h>>
     ensures { result ≡ shared_among (row_in others.now) i best.entry (touches_in (map arc_value groups.entry.now)) }
 {
@@ -146,7 +146,7 @@ fn touched_by<'h>(
 fn put_owner<'h>(
     alloc: Global,
     i: usize,
-    groups: &[Arc<Prepared<'h>>],
+    groups: &[Arc<Touched<'h>>],
     owners: &mut KeyedRows<'h, usize>,
 ) -> Result<(), AllocError>
     ensures { OnOk result ((key : KeyValue) → row_in owners.new key ≡ owner_after i (touches_key (map arc_value groups.now) key) (row_in owners.old key)) }

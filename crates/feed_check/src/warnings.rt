@@ -13,7 +13,7 @@ use crate::key_text::key_text;
 use crate::places::place_text;
 use filter_rule::Table;
 use shown_text::shown;
-use source_feed::Prepared;
+use source_feed::Touched;
 use std::alloc::{AllocError, Global};
 
 /// How many findings of a kind are told one by one.
@@ -228,7 +228,7 @@ fn keyed_text(alloc: Global, tables: &[Table], found: &Finding<'_>) -> Result<St
 }
 
 /// The group of a number, from 1.
-pub fn group_of<'c, 'h>(check: &'c Checked<'h>, number: u32) -> Option<&'c Prepared<'h>>
+pub fn group_of<'c, 'h>(check: &'c Checked<'h>, number: u32) -> Option<&'c Touched<'h>>
     ensures { option_copied result ≡ group_of check.now.history number }
 {
     check.group((number as usize).saturating_sub(1))

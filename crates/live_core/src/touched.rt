@@ -39,7 +39,8 @@ fn put_keys_of_groups(
     ensures { OnOk result ((key : KeyValue) → has_key keys.new.keys key ≡ (has_key keys.old.keys key || is_touched (touches_in (map arc_value groups.now)) key)) }
 {
     for group in groups {
-        put_keys(alloc, keys, group.touches())?;
+        let touches = group.touches(alloc)?;
+        put_keys(alloc, keys, touches.as_slice())?;
     }
     Ok(())
 }

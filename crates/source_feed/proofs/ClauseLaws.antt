@@ -1,6 +1,5 @@
 -- The laws of groups said of what the calls give.
 use Rattle.std.proofs.Common.{◌≡◌, ◌∙◌, ℕ, List, reverse, length, Option, Some, None, Result, Ok, Err, IfOk, IfErr, IfSome, refl, sym, ap, subst}
-use Rattle.std.specs.Result.{result_err}
 use Rattle.std.specs.Prelude.{IsSomeAnd, MatchOption}
 use Rattle.list_laws.specs.Outcome.{◌>>=◌, GivesUnless, Refuses}
 use Rattle.filter_rule.specs.PlanValue.{PlanValue}
@@ -76,11 +75,3 @@ pub if-refused : {X : Type 0} → ByChange → (view : X → PreparedValue) (fee
     → IfErr result (λ fault. IfSome (meant_of fault) (IsCauseAt feed number))
 if-refused law view feed number (Ok x) g = tt
 if-refused law view feed number (Err fault) g = cause-of law feed number fault g
-
--- where a fault is that of the definition, if it has one
-pub if-wanted : ByChange → (feed : FeedValue) (number : ℕ) (fault : FeedFault) → meant_of fault ≡ result_err (prepared_at feed number) → IfSome (meant_of fault) (IsCauseAt feed number)
-if-wanted law feed number fault e = subst (λ (o : Option FeedFault). IfSome o (IsCauseAt feed number)) (sym e) (by (prepared_at feed number) refl)
-  where
-    by : (r : Result PreparedValue FeedFault) → prepared_at feed number ≡ r → IfSome (result_err r) (IsCauseAt feed number)
-    by (Ok x) is = tt
-    by (Err cause) is = cause-at law feed number cause is

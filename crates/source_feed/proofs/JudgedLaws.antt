@@ -13,7 +13,7 @@ use Rattle.source_feed.proofs.SoundLaws.{touches_by_change}
 
 -- ---- of one result
 
-refused_by : {A F : Type 0} (r : Result A F) (fault : F) → result_err r ≡ Some fault → r ≡ Err fault
+pub refused_by : {A F : Type 0} (r : Result A F) (fault : F) → result_err r ≡ Some fault → r ≡ Err fault
 refused_by (Ok x) fault e = cc
 refused_by (Err f) fault e = cc
 

@@ -21,6 +21,7 @@ pub mod SoundLaws
 pub mod SoundGroupLaws
 pub mod PositionLaws
 pub mod JudgedLaws
+pub mod LentLaws
 pub mod ImageLaws
 pub mod ChunkLaws
 pub mod FrameLaws

@@ -16,7 +16,6 @@ use Rattle.pk_copy.specs.KeyValue.{KeyValue}
 use Rattle.pk_copy.specs.KeyOf.{key_cells, is_null, has_no_part, key_part_of, key_of}
 use Rattle.vevent.specs.Columns.{has_columns}
 use Rattle.source_feed.specs.declared.fault.FeedFault.{FeedFault}
-use Rattle.source_feed.specs.GroupValue.{Position}
 use Rattle.source_feed.specs.Planned.{FeedValue, PlannedGroupValue, PlannedChangeValue, IsFeed, IsChangeUnder}
 use Rattle.source_feed.specs.Prepared.{IsTouchUnder, IsPrepared}
 use Rattle.source_feed.specs.Touches.{PutValue, TouchValue, group_at, in_group, key_in_group, passes_in, touches_before, touches_after, touches_of_change, touches_of}
@@ -146,12 +145,3 @@ group_whole feed (suc i) group touches whole at e =
 pub group_number : (feed : FeedValue) (number : ℕ) (group : PlannedGroupValue) → IsFeed feed → Some group ≡ group_at feed number → group.number ≡ number
 group_number feed zero group whole at = cc
 group_number feed (suc i) group whole at = let numbered : group.number ≡ i + 1 = whole.order.numbered i group (sym at) in omega arith
-
--- the same of what a group was made of
-pub made_whole : (feed : FeedValue) (number : ℕ) (group : PlannedGroupValue) (plan asked : PlanValue) (n : ℕ) (position : Position) (touches : List TouchValue) → IsFeed feed
-    → Some group ≡ group_at feed number → plan ≡ feed.plan → asked ≡ feed.plan → n ≡ group.number → position ≡ group.position
-    → touches_of asked group.number group.changes ≡ Ok touches → IsPrepared (record { plan = plan; number = n; position = position; touches = touches })
-made_whole feed number group plan asked n position touches whole at same_plan same_asked same_number same_position e =
-    let made : IsPrepared (record { plan = feed.plan; number = group.number; position = group.position; touches = touches }) =
-    group_whole feed number group touches whole at (subst (λ p. touches_of p group.number group.changes ≡ Ok touches) same_asked e) in
-    subst IsPrepared (λ i. record { plan = sym same_plan i; number = sym same_number i; position = sym same_position i; touches = touches }) made

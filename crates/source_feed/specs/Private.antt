@@ -14,5 +14,6 @@ pub mod Walked
 pub mod ReadOn
 pub mod TouchesBehind
 pub mod LeftRows
+pub mod SoundGroup
 pub mod RowCounts
 pub mod ImageEntries

@@ -1,7 +1,6 @@
 //! A feed under a plan.
 
 ghost use Rattle.std.specs.Prelude.{◌≡◌, ◌↔◌, ◌⊎◌, ◌^◌, ◌≤◌, [], ◌++◌, length, take, IsTrue, IsOk, IfOk, IfErr, IfSome, OnOk, OnErr, Err, slice_get};
-ghost use Rattle.std.specs.Result.{result_err};
 ghost use Rattle.std.specs.Option.{option_copied, option_map};
 ghost use Rattle.std.specs.Arc.{arc_value};
 ghost use Rattle.list_laws.specs.Outcome.{GivesUnless};
@@ -22,7 +21,6 @@ use crate::judging::judge;
 use crate::laws::touches_are_those_of_the_changes;
 use crate::planned::{PlannedGroup, planned_groups};
 use crate::prepared::Prepared;
-use crate::preparing::touches_of;
 use crate::source::Source;
 use crate::start::Start;
 use filter_rule::Plan;
@@ -100,17 +98,17 @@ impl<'h> Feed<'h> {
     }
 
     /// What the feed's groups are to the events that follow.
-    pub(crate) fn start(&self) -> Result<Start, AllocError>
+    pub(crate) fn start(&self) -> Result<Start<'h>, AllocError>
         ensures groups { IfOk result (λ start. start.groups ≡ length self.now.groups) }
         ensures position { IfOk result (λ start. start_position start ≡ reached_by self.now.groups) }
     {
-        let position = match self.groups.last() {
+        let last = match self.groups.last() {
             None => None,
-            Some(group) => Some(Arc::clone(group.shared_position())?),
+            Some(group) => Some(group.share()?),
         };
         Ok(Start {
             groups: self.count(),
-            position,
+            last,
         })
     }
 
@@ -185,7 +183,8 @@ impl<'h> Feed<'h> {
 
     /// The group of a number, from 1, with its touches in order: in each change first the row before, whose
     /// key is touched with nothing, then the row after, which is put at its key with the filter's answer. A
-    /// row before gives its key alone. Reads each row once for its key and its filter.
+    /// row before gives its key alone. Reads each row once for its key and its filter, and again where its
+    /// touches are asked for. Takes the same memory for every group.
     ///
     /// Refused as `NoGroup` where the feed has no group of this number, and as `BadRow` where the group
     /// isn't sound, by the first row that has no key or no answer of the filter, whatever memory there is.
@@ -199,40 +198,19 @@ impl<'h> Feed<'h> {
         ensures cause { IfErr result (λ fault. IfSome (meant_of fault) (IsCauseAt self.now number)) }
         // Each key is of a table of the plan, and each row that is put has that table's width.
         ensures whole { IfOk result (λ prepared. IsPrepared (arc_value prepared)) }
-        // Memory is wanted for a sound group alone: where a growth is refused, the group is judged without.
+        // Memory is wanted for a sound group alone: the group is judged without.
         ensures memory { result ≡ Err FeedFault.Memory → IsOk (prepared_at self.now number) }
     {
         touches_are_those_of_the_changes();
-        match self.prepared(alloc, number) {
-            Err(FeedFault::Memory) => Err(self.wanted(number)),
-            answer => answer,
-        }
+        self.prepared(alloc, number)
     }
 
-    /// Why the group of a number isn't prepared where a growth was refused: what it is refused by, and want
-    /// of memory where it is sound. Takes no memory.
-    fn wanted(&self, number: u32) -> FeedFault
-        ensures { meant_of result ≡ result_err (prepared_at self.now number) }
-    {
-        let group = match self.group(number) {
-            None => {
-                return FeedFault::NoGroup {
-                    groups: self.count(),
-                };
-            }
-            Some(group) => group,
-        };
-        match judge(&self.plan, group) {
-            Ok(()) => FeedFault::Memory,
-            Err(fault) => fault,
-        }
-    }
-
-    /// The group of a number, from 1, with its touches, each as its memory is taken.
+    /// The group of a number, from 1, if it is sound.
     fn prepared(&self, alloc: Global, number: u32) -> Result<Arc<Prepared<'h>>, FeedFault>
         ensures exact { GivesUnless meant_of (λ prepared. arc_value prepared) result (prepared_at self.now number) }
         ensures number { IfOk result (λ prepared. (arc_value prepared).number ≡ number) }
         ensures whole { IfOk result (λ prepared. IsPrepared (arc_value prepared)) }
+        ensures memory { result ≡ Err FeedFault.Memory → IsOk (prepared_at self.now number) }
     {
         let group = match self.group(number) {
             None => {
@@ -242,11 +220,10 @@ impl<'h> Feed<'h> {
             }
             Some(group) => group,
         };
+        judge(&self.plan, group)?;
         let prepared = Prepared {
             plan: Arc::clone(&self.plan)?,
-            number: group.number(),
-            position: Arc::clone(group.shared_position())?,
-            touches: touches_of(alloc, &self.plan, group)?,
+            group: group.share()?,
         };
         Ok(Arc::new(alloc, prepared)?)
     }

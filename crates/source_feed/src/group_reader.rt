@@ -32,7 +32,7 @@ use vevent::{ColumnFields, Event, FieldEvent, RowEvent};
 #[derive(Drop)]
 pub(crate) struct GroupReader<'h> {
     /// the groups before these events
-    start: Start,
+    start: Start<'h>,
     /// the open transaction, if one is open
     transaction: Option<Transaction<'h>>,
     /// the tables that FIELD events have named
@@ -55,20 +55,20 @@ fn column_count(fields: ColumnFields<'_>) -> u16
 }
 
 /// The position of the last group before these events, or the empty one.
-fn start_position<'g>(start: &'g Start, empty: &'g GtidSet) -> &'g GtidSet
+fn start_position<'g>(start: &'g Start<'_>, empty: &'g GtidSet) -> &'g GtidSet
     requires { empty.now ≡ [] }
     ensures { result.now ≡ start_position start.now }
 {
-    match &start.position {
+    match &start.last {
         None => empty,
-        Some(position) => position,
+        Some(group) => group.position(),
     }
 }
 
 /// The position of the last group, or the one that is reached before them.
 fn last_position<'g>(
     groups: &'g [KeptGroup<'_>],
-    start: &'g Start,
+    start: &'g Start<'_>,
     empty: &'g GtidSet,
 ) -> &'g GtidSet
     requires { empty.now ≡ [] }
@@ -97,7 +97,7 @@ fn in_own_size<'h>(
 #[inline(always)]
 fn end_block<'h>(
     alloc: Global,
-    start: &Start,
+    start: &Start<'_>,
     groups: &mut Vec<KeptGroup<'h>>,
     position: GtidSet,
     changes: &mut Vec<KeptChange<'h>>,
@@ -141,7 +141,7 @@ impl<'h> GroupReader<'h> {
         GroupReader {
             start: Start {
                 groups: 0,
-                position: None,
+                last: None,
             },
             transaction: None,
             tables: FeedTables::new(alloc),
@@ -151,8 +151,8 @@ impl<'h> GroupReader<'h> {
     }
 
     /// Nothing is known yet of the events behind these groups and with these tables. Takes no memory.
-    pub(crate) fn behind(alloc: Global, start: Start, tables: FeedTables<'h>) -> GroupReader<'h>
-        ensures start { result.start ≡ start }
+    pub(crate) fn behind(alloc: Global, start: Start<'h>, tables: FeedTables<'h>) -> GroupReader<'h>
+        ensures start { result.start ≡ start.entry }
         ensures tables { result.tables ≡ tables.entry }
         ensures none { result.groups.items ≡ [] }
         ensures closed { result.transaction ≡ None }

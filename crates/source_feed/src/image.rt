@@ -99,7 +99,8 @@ impl<'h> Image<'h> {
         ensures kept_on { OnOk result ((history : List PreparedValue) → IsPassed history (length history) self.old → IsPassed (history ++ group.now ∷ []) (length history + 1) self.new) }
         ensures unchanged { OnErr result (self.new ≡ self.old) }
     {
-        let changes = changes_of(alloc, group.touches())?;
+        let touches = group.touches(alloc)?;
+        let changes = changes_of(alloc, touches.as_slice())?;
         match self.rows.apply(alloc, 0, changes) {
             Ok(_) => Ok(()),
             Err(TableFault::Memory) => Err(AllocError),

@@ -17,6 +17,7 @@ mod image;
 mod judging;
 mod kept;
 mod laws;
+mod lent_touches;
 mod pieces;
 mod planned;
 mod prepared;
@@ -26,6 +27,7 @@ mod source;
 mod start;
 mod table_rows;
 mod touch;
+mod touched;
 mod transaction;
 mod up_to_position;
 
@@ -43,4 +45,5 @@ pub use laws::{
 pub use pieces::FeedBuilder;
 pub use prepared::Prepared;
 pub use touch::{Put, Touch};
+pub use touched::Touched;
 pub use up_to_position::{groups_up_to, number_at};

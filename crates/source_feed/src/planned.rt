@@ -64,6 +64,14 @@ impl<'h> PlannedChange<'h> {
         self.rows.after()
     }
 
+    /// The bytes of the change's rows, of which there is one at least. Reads no row.
+    pub(crate) fn rows(&self) -> &TableRows<'h>
+        ensures table { table_of result.now ≡ self.now.table }
+        ensures rows { let rows = rows_of result.now in (rows.before ≡ self.now.before) × (rows.after ≡ self.now.after) }
+    {
+        &self.rows
+    }
+
     /// How many rows the change has. Reads no row.
     pub(crate) fn row_count(&self) -> usize
         ensures { result ≡ rows_in_change self.now }
@@ -72,16 +80,22 @@ impl<'h> PlannedChange<'h> {
     }
 }
 
-/// A group of a feed under a plan: the changes of the plan's tables alone, of which a single one stands in its
-/// place. The position is shared.
+/// What a group under a plan has, in a block of its own: the changes are those of the plan's tables alone, of
+/// which a single one stands in its place.
 #[derive(Drop)]
-pub(crate) struct PlannedGroup<'h> {
+pub(crate) struct GroupBlock<'h> {
     number: u32,
-    position: Arc<GtidSet>,
+    position: GtidSet,
     changes: Changes<'h>,
 }
 
-const _: () = prove!(size_of::<PlannedGroup<'static>>() == 64);
+/// A group of a feed under a plan. Its block is shared by all who keep the group.
+#[derive(Drop)]
+pub(crate) struct PlannedGroup<'h> {
+    block: Arc<GroupBlock<'h>>,
+}
+
+const _: () = prove!(size_of::<PlannedGroup<'static>>() == 8);
 
 impl<'h> Model for PlannedGroup<'h> {
     ghost use Rattle.std.specs.Arc.{arc_value};
@@ -90,36 +104,37 @@ impl<'h> Model for PlannedGroup<'h> {
 
     ghost Value = { PlannedGroupValue };
 
-    ghost view = { λ g. record { number = g.number; position = arc_value g.position; changes = listed g.changes } };
+    ghost view = { λ g. let block = arc_value g.block in record { number = block.number; position = block.position; changes = listed block.changes } };
 }
 
 impl<'h> PlannedGroup<'h> {
+    /// The same group, whose block is shared with this one.
+    pub(crate) fn share(&self) -> Result<PlannedGroup<'h>, AllocError>
+        ensures { IfOk result (λ group. group ≡ self.now) }
+    {
+        let block = Arc::clone(&self.block)?;
+        Ok(PlannedGroup { block })
+    }
+
     /// The group's number in its feed, from 1.
     pub(crate) fn number(&self) -> u32
         ensures { result ≡ self.now.number }
     {
-        self.number
-    }
-
-    /// The source's position after the group, shared.
-    pub(crate) fn shared_position(&self) -> &Arc<GtidSet>
-        ensures { arc_value result.now ≡ self.now.position }
-    {
-        &self.position
+        self.block.number
     }
 
     /// The source's position after the group.
     pub(crate) fn position(&self) -> &GtidSet
         ensures { result.now ≡ self.now.position }
     {
-        &self.position
+        &self.block.position
     }
 
     /// The group's changes, in the feed's order.
     pub(crate) fn changes(&self) -> &[PlannedChange<'h>]
         ensures { result.now ≡ self.now.changes }
     {
-        self.changes.as_slice()
+        self.block.changes.as_slice()
     }
 }
 
@@ -185,10 +200,13 @@ fn planned_of<'h>(
         position,
         changes,
     } = group;
-    Ok(PlannedGroup {
+    let block = GroupBlock {
         number,
-        position: Arc::new(alloc, position)?,
+        position,
         changes: planned_changes(alloc, tables, changes)?,
+    };
+    Ok(PlannedGroup {
+        block: Arc::new(alloc, block)?,
     })
 }
 

@@ -1,13 +1,12 @@
 //! What stands before the events that a reader takes.
 
-use gtid_set::GtidSet;
-use std::sync::Arc;
+use crate::planned::PlannedGroup;
 
 /// The groups that stand before the events that are read.
 #[derive(Drop)]
-pub(crate) struct Start {
+pub(crate) struct Start<'h> {
     /// how many they are
     pub(crate) groups: u32,
-    /// the last one's position, which contains all earlier positions; none where no group stands before
-    pub(crate) position: Option<Arc<GtidSet>>,
+    /// the last one, whose position contains all earlier positions; none where no group stands before
+    pub(crate) last: Option<PlannedGroup<'h>>,
 }

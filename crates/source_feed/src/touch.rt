@@ -3,7 +3,7 @@
 ghost use Rattle.std.specs.Prelude.{◌≡◌, ◌↔◌, IsTrue, Some, None};
 ghost use Rattle.source_feed.specs.Private.LeftRows.{left_value};
 
-use pk_copy::{KeyView, LentKey, keys_tie_where_they_are_equal};
+use pk_copy::{KeyView, LentKey};
 use row_view::{RowBytes, RowView};
 use std::marker::Model;
 
@@ -24,6 +24,13 @@ impl<'h> Model for Put<'h> {
 }
 
 impl<'h> Put<'h> {
+    /// A row, and whether it passes.
+    pub(crate) fn new(row: RowBytes<'h>, passes: bool) -> Put<'h>
+        ensures { result ≡ record { row = row.entry; passes = passes } }
+    {
+        Put { row, passes }
+    }
+
     /// The row. The view is made anew.
     pub fn row(&self) -> RowView<'h>
         ensures { result ≡ self.now.row }
@@ -82,12 +89,12 @@ impl<'h> Left<'h> {
 }
 
 /// Whether two touches leave the same.
-fn are_same(one: Option<Put<'_>>, other: Option<Put<'_>>) -> bool
-    ensures { IsTrue result ↔ (one.entry ≡ other.entry) }
+pub(crate) fn are_same_puts(one: &Option<Put<'_>>, other: &Option<Put<'_>>) -> bool
+    ensures { IsTrue result ↔ (one.now ≡ other.now) }
 {
     match (one, other) {
         (None, None) => true,
-        (Some(one), Some(other)) => one.same(&other),
+        (Some(one), Some(other)) => one.same(other),
         _ => false,
     }
 }
@@ -151,14 +158,5 @@ impl<'h> Touch<'h> {
         ensures { result ≡ self.now.1 }
     {
         self.left.put()
-    }
-
-    /// Whether the other touches the same key and leaves the same there, rows by their columns. Takes no
-    /// memory.
-    pub(crate) fn same(&self, other: &Touch<'_>) -> bool
-        ensures { IsTrue result ↔ (self.now ≡ other.now) }
-    {
-        keys_tie_where_they_are_equal();
-        self.key == other.key && are_same(self.put(), other.put())
     }
 }

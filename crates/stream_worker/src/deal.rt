@@ -102,7 +102,8 @@ impl<'h> Deal<'h> {
     {
         steps_keep_boards_lawful();
         self.board.is_lawful();
-        let _touches = group.touches();
+        // (for its contract: what is true of every prepared group)
+        group.is_prepared();
         found.answer(group.number())
     }
 

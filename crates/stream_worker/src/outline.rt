@@ -126,7 +126,8 @@ impl<'h> Outline<'h> {
     pub(crate) fn find(&self, group: &Prepared<'_>) -> Option<Found>
         ensures { IfSome result (IsFound self.now.list group.now) }
     {
-        let _touches = group.touches();
+        // (for its contract: a group's number is at least 1)
+        group.is_prepared();
         let place = (group.number() - 1) as usize;
         match self.list.get(place) {
             None => None,

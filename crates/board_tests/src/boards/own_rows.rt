@@ -5,20 +5,21 @@ use crate::boards::slow::slow_row;
 use apply_core::Board;
 use pk_copy::{Key, LentKey, Mark};
 use row_view::RowBytes;
-use source_feed::{Feed, Prepared};
+use source_feed::{Feed, Touched};
 use std::alloc::Global;
 use std::sync::Arc;
 use stream_core::Cursor;
 
-/// The groups of a feed, prepared.
-pub(crate) type Groups<'h> = Vec<Arc<Prepared<'h>>>;
+/// The groups of a feed, prepared, with their touches at hand.
+pub(crate) type Groups<'h> = Vec<Arc<Touched<'h>>>;
 
 /// All groups of a feed of at most nine, prepared.
 fn prepared<'h>(alloc: Global, feed: &Feed<'h>) -> Option<Groups<'h>> {
     let mut groups = Vec::new(alloc);
     for number in 1..=9u32 {
         if number as usize <= feed.len() {
-            let group = group_of(alloc, feed, number)?;
+            let group = Touched::of(alloc, group_of(alloc, feed, number)?).ok()?;
+            let group = Arc::new(alloc, group).ok()?;
             if groups.push(group).is_err() {
                 return None;
             }
@@ -61,7 +62,7 @@ fn is_copied(mark: Mark<'_>, key: &LentKey<'_>) -> bool {
 fn due_row<'h>(
     board: &Board<'h>,
     s: u8,
-    groups: &[Arc<Prepared<'h>>],
+    groups: &[Arc<Touched<'h>>],
     key: &LentKey<'h>,
 ) -> Option<RowBytes<'h>> {
     let (Ok(cursor), Ok(mark)) = (board.state(s), board.mark(s, 0)) else {
@@ -88,7 +89,7 @@ fn has_row_at<'h>(
     alloc: Global,
     board: &Board<'h>,
     s: u8,
-    groups: &[Arc<Prepared<'h>>],
+    groups: &[Arc<Touched<'h>>],
     lent: &LentKey<'h>,
 ) -> bool {
     match Key::from_view(alloc, &lent.view()) {
@@ -98,7 +99,7 @@ fn has_row_at<'h>(
 }
 
 /// Whether stream `s` has the definition's rows at every key that its feed's groups touch.
-fn has_rows<'h>(alloc: Global, board: &Board<'h>, s: u8, groups: &[Arc<Prepared<'h>>]) -> bool {
+fn has_rows<'h>(alloc: Global, board: &Board<'h>, s: u8, groups: &[Arc<Touched<'h>>]) -> bool {
     for group in groups {
         for touch in group.touches() {
             if !has_row_at(alloc, board, s, groups, touch.key()) {

@@ -11,7 +11,7 @@ ghost use Rattle.source_feed.specs.Image.{kept_after};
 
 use pk_copy::LentKey;
 use row_view::RowBytes;
-use source_feed::{Prepared, Touch};
+use source_feed::{Touch, Touched};
 use std::sync::Arc;
 
 /// The row that a touch leaves, if it passes the filter.
@@ -42,7 +42,7 @@ fn row_after<'h>(
 }
 
 /// The row that stands at a key after some groups, if it passes the filter.
-pub(crate) fn slow_row<'h>(groups: &[Arc<Prepared<'h>>], key: &LentKey<'h>) -> Option<RowBytes<'h>>
+pub(crate) fn slow_row<'h>(groups: &[Arc<Touched<'h>>], key: &LentKey<'h>) -> Option<RowBytes<'h>>
     ensures { result ≡ passed_at (map arc_value groups.now) (length groups.now) key.now }
 {
     let mut left = None;

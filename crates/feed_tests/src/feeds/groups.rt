@@ -73,7 +73,10 @@ fn has_touches(alloc: Global, workflow: &[u8], feed: &[u8], touches: usize) -> b
         return false;
     };
     match feed.prepare(alloc, 1) {
-        Ok(group) => feed.len() == 1 && group.touches().len() == touches,
+        Ok(group) => match group.touches(alloc) {
+            Ok(all) => feed.len() == 1 && all.len() == touches,
+            Err(_) => false,
+        },
         Err(_) => false,
     }
 }

@@ -89,12 +89,21 @@ fn are_left(touches: &[Touch<'_>], wanted: &[Left]) -> bool {
     left.next().is_none()
 }
 
+/// The group has these touches, in order.
+fn has_touches(alloc: Global, group: &Prepared<'_>, wanted: &[Left]) -> bool {
+    match group.touches(alloc) {
+        Ok(touches) => are_left(touches.as_slice(), wanted),
+        Err(_) => false,
+    }
+}
+
 /// Each group has its touches.
 fn are_touched(alloc: Global, groups: &[Touched]) -> bool {
     for wanted in groups {
         match prepared(alloc, wanted.workflow, wanted.feed, wanted.group) {
             Ok(group)
-                if group.number() == wanted.group && are_left(group.touches(), wanted.touches) => {}
+                if group.number() == wanted.group
+                    && has_touches(alloc, &group, wanted.touches) => {}
             _ => return false,
         }
     }

@@ -7,7 +7,7 @@ use crate::feeds::opening::opened;
 use crate::feeds::slow::slow_row;
 use pk_copy::LentKey;
 use row_view::{Column, RowBytes, RowView};
-use source_feed::{Change, Feed, FeedFault, Group, Groups, Image, Prepared, read_groups};
+use source_feed::{Change, Feed, FeedFault, Group, Groups, Image, Touched, read_groups};
 use std::alloc::{AllocError, Global};
 use std::sync::Arc;
 use std::test::Fail;
@@ -142,8 +142,8 @@ fn is_row_at<'h>(
 /// The image has the rows of the definition at the keys of a group's touches.
 fn has_rows_at<'h>(
     rows: &[(&LentKey<'h>, &RowBytes<'h>)],
-    earlier: &[Arc<Prepared<'h>>],
-    group: &Prepared<'h>,
+    earlier: &[Arc<Touched<'h>>],
+    group: &Touched<'h>,
 ) -> bool {
     for touch in group.touches() {
         if !is_row_at(rows, touch.key(), slow_row(earlier, touch.key())) {
@@ -154,7 +154,7 @@ fn has_rows_at<'h>(
 }
 
 /// The image has the rows of the definition at every key that the groups touch.
-fn is_kept<'h>(rows: &[(&LentKey<'h>, &RowBytes<'h>)], groups: &[Arc<Prepared<'h>>]) -> bool {
+fn is_kept<'h>(rows: &[(&LentKey<'h>, &RowBytes<'h>)], groups: &[Arc<Touched<'h>>]) -> bool {
     for group in groups {
         if !has_rows_at(rows, groups, group) {
             return false;
@@ -168,7 +168,7 @@ fn is_image<'h>(
     alloc: Global,
     image: &Image<'h>,
     number: usize,
-    prepared: &[Arc<Prepared<'h>>],
+    prepared: &[Arc<Touched<'h>>],
     groups: &Groups<'_>,
 ) -> Result<bool, AllocError> {
     let Some(prepared) = prepared.get(..number) else {
@@ -183,15 +183,15 @@ fn push_prepared<'h>(
     alloc: Global,
     feed: &Feed<'h>,
     number: u32,
-    groups: &mut Vec<Arc<Prepared<'h>>>,
+    groups: &mut Vec<Arc<Touched<'h>>>,
 ) -> Result<(), FeedFault> {
-    let group = feed.prepare(alloc, number)?;
-    groups.push(group)?;
+    let group = Touched::of(alloc, feed.prepare(alloc, number)?)?;
+    groups.push(Arc::new(alloc, group)?)?;
     Ok(())
 }
 
 /// Nine groups of a feed with their touches.
-fn nine_groups<'h>(alloc: Global, feed: &Feed<'h>) -> Result<Vec<Arc<Prepared<'h>>>, FeedFault> {
+fn nine_groups<'h>(alloc: Global, feed: &Feed<'h>) -> Result<Vec<Arc<Touched<'h>>>, FeedFault> {
     let mut groups = Vec::new(alloc);
     for number in 1..=9 {
         push_prepared(alloc, feed, number, &mut groups)?;
@@ -202,13 +202,13 @@ fn nine_groups<'h>(alloc: Global, feed: &Feed<'h>) -> Result<Vec<Arc<Prepared<'h
 /// The image says what the changes and the definition say after each group.
 fn agrees<'h>(
     alloc: Global,
-    prepared: &[Arc<Prepared<'h>>],
+    prepared: &[Arc<Touched<'h>>],
     groups: &Groups<'_>,
 ) -> Result<bool, AllocError> {
     let mut image = Image::new(alloc);
     let mut number = 0usize;
     for group in prepared {
-        image.advance(alloc, group)?;
+        image.advance(alloc, group.group())?;
         number = number.saturating_add(1);
         if !is_image(alloc, &image, number, prepared, groups)? {
             return Ok(false);

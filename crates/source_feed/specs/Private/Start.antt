@@ -1,13 +1,13 @@
 -- What stands before the events that a reader takes.
 use Rattle.std.specs.Prelude.{◌-◌, List, [], length, slice_get}
-use Rattle.std.specs.Arc.{arc_value}
 use Rattle.std.specs.Option.{option_map_or}
 use Rattle.source_feed.specs.declared.start.Start.{Start}
 use Rattle.source_feed.specs.GroupValue.{Position, GroupValue}
+use Rattle.source_feed.specs.Planned.{PlannedGroupValue}
 
 -- the position that is reached there; the empty one where no group stands before
 abbrev pub start_position : Start → Position
-start_position start = option_map_or arc_value start.position []
+start_position start = option_map_or (λ (group : PlannedGroupValue). group.position) start.last []
 
 -- the position of the last of some groups, or the empty one
 abbrev pub reached_in : List GroupValue → Position

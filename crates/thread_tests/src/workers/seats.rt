@@ -81,15 +81,17 @@ fn is_copied<'h, R: Wait>(alloc: Global, rt: &R, shared: &Shared<'h>, seat: &mut
 
 /// The key that a group touches first.
 fn key_of(alloc: Global, group: &Prepared<'_>) -> Option<Key> {
-    match group.touches().first() {
-        Some(touch) => Key::from_view(alloc, &touch.key_view()).ok(),
-        None => None,
-    }
+    let touches = group.touches(alloc).ok()?;
+    let touch = touches.first()?;
+    Key::from_view(alloc, &touch.key_view()).ok()
 }
 
 /// Whether a row is the one that a group puts first.
-fn is_put_by(group: &Prepared<'_>, row: &RowBuf) -> bool {
-    match group.touches().first() {
+fn is_put_by(alloc: Global, group: &Prepared<'_>, row: &RowBuf) -> bool {
+    let Ok(touches) = group.touches(alloc) else {
+        return false;
+    };
+    match touches.first() {
         Some(touch) => match touch.put() {
             Some(put) => row.bytes().same(&put.bytes()),
             None => false,
@@ -113,7 +115,7 @@ pub(crate) fn is_found<'h, R: Wait>(
         return false;
     };
     match shared.look(rt, alloc, seat, &key) {
-        Ok((number, Some(row))) => number == seat.applied() && is_put_by(&receipt.group, &row),
+        Ok((number, Some(row))) => number == seat.applied() && is_put_by(alloc, &receipt.group, &row),
         _ => false,
     }
 }

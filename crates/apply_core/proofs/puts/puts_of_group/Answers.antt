@@ -11,14 +11,14 @@ pub owned_changes-requires : goal.owned_changes-requires
 owned_changes-requires c =
     let planned : c.args.group.now.plan ≡ c.deref.result.now = sym (c.deref.ensures ∙ c.plan.ensures) in
     subst (λ (plan : PlanValue). AreOfTables plan (map lent_change (reverse c.in_ok-last.last.items))) planned
-    (left_of_tables (λ a b tie. (c.keys_tie_where_they_are_equal.ensures a b).0 tie) c.args.marks.now c.args.group.now.plan c.args.group.now.touches c.in_ok-changes.changes.items c.in_ok-last.last.items c.touches.ensures.whole.touches
-    (c.in_ok-changes.ensures ∙ ap (λ (touches : List TouchValue). map change_of (filter (λ touch. is_inside c.args.marks.now touch.0) touches)) c.touches.ensures.touches) c.in_ok-last.ensures.last c.in_ok-last.ensures.falling)
+    (left_of_tables (λ a b tie. (c.keys_tie_where_they_are_equal.ensures a b).0 tie) c.args.marks.now c.args.group.now.plan c.args.group.now.touches c.in_ok-changes.changes.items c.in_ok-last.last.items c.is_prepared.ensures.touches
+    (c.in_ok-changes.ensures ∙ ap (λ (touches : List TouchValue). map change_of (filter (λ touch. is_inside c.args.marks.now touch.0) touches)) (c.as_slice.ensures.value ∙ c.in_ok-touches.ensures)) c.in_ok-last.ensures.last c.in_ok-last.ensures.falling)
 
 pub returns-clause-left : goal.returns-clause-left
 returns-clause-left c =
     let planned : c.args.group.now.plan ≡ c.deref.result.now = sym (c.deref.ensures ∙ c.plan.ensures) in
     left-by_last (λ a b tie. (c.keys_tie_where_they_are_equal.ensures a b).0 tie) c.args.marks.now c.args.group.now.plan c.args.group.now.touches c.in_ok-changes.changes.items c.in_ok-last.last.items c.in_ok-puts.puts.items
-    (c.in_ok-changes.ensures ∙ ap (λ (touches : List TouchValue). map change_of (filter (λ touch. is_inside c.args.marks.now touch.0) touches)) c.touches.ensures.touches) c.in_ok-last.ensures.last (c.in_ok-puts.ensures ∙ ap (λ (plan : PlanValue). map (kept_change plan) (map lent_change (reverse c.in_ok-last.last.items))) (sym planned))
+    (c.in_ok-changes.ensures ∙ ap (λ (touches : List TouchValue). map change_of (filter (λ touch. is_inside c.args.marks.now touch.0) touches)) (c.as_slice.ensures.value ∙ c.in_ok-touches.ensures)) c.in_ok-last.ensures.last (c.in_ok-puts.ensures ∙ ap (λ (plan : PlanValue). map (kept_change plan) (map lent_change (reverse c.in_ok-last.last.items))) (sym planned))
 
 pub returns-clause-rising : goal.returns-clause-rising
 returns-clause-rising c =

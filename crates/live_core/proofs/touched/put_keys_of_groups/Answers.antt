@@ -14,7 +14,7 @@ loop-group-preserved c = λ q.
     let i = c.loop-group.group-index in
     let group = c.group-item.result in
     let old = c.loop-group.keys.keys in
-    let is : c.touches.result.now ≡ (arc_value group).touches = c.touches.ensures.touches ∙ ap (λ (p : PreparedValue). p.touches) c.deref.ensures in
+    let is : c.as_slice.result.now ≡ (arc_value group).touches = c.as_slice.ensures.value ∙ c.in_ok-touches.ensures ∙ ap (λ (p : PreparedValue). p.touches) c.deref.ensures in
     put-group old c.put_keys.new.keys.keys (arc_value group) (map arc_value (drop (i + 1) groups))
     (λ k. c.in_ok-put_keys.ensures k ∙ ap (λ (l : List TouchValue). has_key old k || is_touched l k) is) q
     ∙ ap (λ (l : List PreparedValue). has_key old q || is_touched (touches_in l) q) (sym (ap (map arc_value) (at_item groups i group (omega (arith, c.loop-group-test.true)) c.group-item.is)))

@@ -6,8 +6,8 @@ use Rattle.source_feed.proofs.prepared.are_same_on.Given as goal
 -- the lists are the same on these tables exactly where the touches that are still to come are
 abbrev pub invariant-loop-touch : goal.invariant-loop-touch
 invariant-loop-touch l =
-    (filter (is_on l.tables) l.touches.rest.now ≡ filter (is_on l.tables) l.others.rest.now → filter (is_on l.tables) l.fn.one ≡ filter (is_on l.tables) l.fn.other)
-    × (filter (is_on l.tables) l.fn.one ≡ filter (is_on l.tables) l.fn.other → filter (is_on l.tables) l.touches.rest.now ≡ filter (is_on l.tables) l.others.rest.now)
+    (filter (is_on l.tables) l.touches ≡ filter (is_on l.tables) l.others → filter (is_on l.tables) l.fn.touches ≡ filter (is_on l.tables) l.fn.others)
+    × (filter (is_on l.tables) l.fn.touches ≡ filter (is_on l.tables) l.fn.others → filter (is_on l.tables) l.touches ≡ filter (is_on l.tables) l.others)
 
 abbrev pub decreases-loop-touch : goal.decreases-loop-touch
-decreases-loop-touch l = length l.touches.rest.now
+decreases-loop-touch l = length l.touches

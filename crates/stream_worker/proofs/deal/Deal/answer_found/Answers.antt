@@ -15,4 +15,4 @@ returns c =
     subst (λ (r : Result Answer Refusal). IsBoardStep c.args.self.now c.args._s (offer (arc_value c.args.group.now)) r c.args.self.now)
     (sym (c.answer.ensures ∙ ap (λ n. answer_of n c.args.found) (c.number.ensures ∙ ap (λ (g : PreparedValue). g.number) c.deref-2.ensures)))
     (found-step c.steps_keep_boards_lawful.ensures.still c.self.inside.board c.args.self.now c.self.inside.given c.args._s (arc_value c.args.group.now) c.args.found c.self.view_is c.self.invariant
-    (subst IsPrepared c.deref.ensures c.touches-touches.ensures.whole) c.requires)
+    (subst IsPrepared c.deref.ensures c.is_prepared.ensures) c.requires)
