@@ -35,9 +35,9 @@ behind-none (Err f) = refl
 -- a list whose first item is taken off, and another one behind it
 taken : {A F : Type 0} (whole rest later : Result (List A) F) (x : A) → whole ≡ (rest >>= λ xs. Ok (x ∷ xs)) → IsOk (both whole later)
     → IsOk (both rest later) × (result_unwrap_or (both whole later) [] ≡ x ∷ result_unwrap_or (both rest later) [])
-taken whole (Ok xs) (Ok ys) x is ok = (refl, ap (λ r. result_unwrap_or (both r (Ok ys)) []) is)
-taken whole (Ok xs) (Err f) x is ok = absurd (not-refused (both whole (Err f)) f (ap (λ r. both r (Err f)) is) ok)
-taken whole (Err f) later x is ok = absurd (not-refused (both whole later) f (ap (λ r. both r later) is) ok)
+taken {A} {F} whole (Ok xs) (Ok ys) x is ok = (refl, ap (λ (r : Result (List A) F). result_unwrap_or (both r (Ok ys)) []) is)
+taken {A} {F} whole (Ok xs) (Err f) x is ok = absurd (not-refused (both whole (Err f)) f (ap (λ (r : Result (List A) F). both r (Err f)) is) ok)
+taken {A} {F} whole (Err f) later x is ok = absurd (not-refused (both whole later) f (ap (λ (r : Result (List A) F). both r later) is) ok)
 
 -- ---- of the touches to come
 
@@ -48,13 +48,13 @@ module _ (plan : PlanValue) (group : ℕ) where
       → IsOk (touches_to_come plan group None later)
           × (result_unwrap_or (touches_to_come plan group (Some (t, row)) later) [] ≡ touch ∷ result_unwrap_or (touches_to_come plan group None later) [])
   put-next t row later touch is ok =
-      taken (touches_left plan group (Some (t, row))) (Ok []) (touches_of plan group later) touch (ap (λ r. r >>= λ put. Ok (put ∷ [])) is) ok
+      taken (touches_left plan group (Some (t, row))) (Ok []) (touches_of plan group later) touch (ap (λ (r : Result TouchValue FeedFault). r >>= λ put. Ok (put ∷ [])) is) ok
 
   -- it isn't refused
   pub put-refused : (t : ℕ) (row : List (Option (List ℕ))) (later : List PlannedChangeValue) (fault : FeedFault) → put_of plan group t row ≡ Err fault
       → IsOk (touches_to_come plan group (Some (t, row)) later) → ⊥
   put-refused t row later fault is ok =
-      not-refused (touches_to_come plan group (Some (t, row)) later) fault (ap (λ r. both (r >>= λ put. Ok (put ∷ [])) (touches_of plan group later)) is) ok
+      not-refused (touches_to_come plan group (Some (t, row)) later) fault (ap (λ (r : Result TouchValue FeedFault). both (r >>= λ put. Ok (put ∷ [])) (touches_of plan group later)) is) ok
 
   -- a change is begun
   pub change-next : (change : PlannedChangeValue) (later : List PlannedChangeValue) (begun : TouchValue × Option (ℕ × List (Option (List ℕ)))) → IsFirstTouch plan group change begun
@@ -65,12 +65,12 @@ module _ (plan : PlanValue) (group : ℕ) where
       let whole : touches_to_come plan group None (change ∷ later) ≡ both (touches_of_change plan group change) (touches_of plan group later)
       = behind-none (touches_of plan group (change ∷ later)) in
       let step = taken (touches_of_change plan group change) (touches_left plan group begun.1) (touches_of plan group later) begun.0 is (subst IsOk whole ok) in
-      (step.0, ap (λ r. result_unwrap_or r []) whole ∙ step.1)
+      (step.0, ap (λ (r : Result (List TouchValue) FeedFault). result_unwrap_or r []) whole ∙ step.1)
 
   pub change-refused : (change : PlannedChangeValue) (later : List PlannedChangeValue) (fault : FeedFault) → touches_of_change plan group change ≡ Err fault
       → IsOk (touches_to_come plan group None (change ∷ later)) → ⊥
   change-refused change later fault is ok =
-      not-refused (touches_to_come plan group None (change ∷ later)) fault (behind-none (touches_of plan group (change ∷ later)) ∙ ap (λ r. both r (touches_of plan group later)) is) ok
+      not-refused (touches_to_come plan group None (change ∷ later)) fault (behind-none (touches_of plan group (change ∷ later)) ∙ ap (λ (r : Result (List TouchValue) FeedFault). both r (touches_of plan group later)) is) ok
 
   -- all of them are those of the changes
   pub all-to-come : (changes : List PlannedChangeValue) → touches_to_come plan group None changes ≡ touches_of plan group changes
@@ -81,7 +81,7 @@ module _ (plan : PlanValue) (group : ℕ) where
 -- a group that isn't refused is prepared with the touches of its changes
 pub prepared-sound : (plan : PlanValue) (group : PlannedGroupValue) → IsOk (touches_of plan group.number group.changes) → prepared plan group ≡ Ok (with_touches plan group)
 prepared-sound plan group ok =
-    ap (λ r. r >>= λ touches. Ok (record { plan = plan; number = group.number; position = group.position; touches = touches })) (given (touches_of plan group.number group.changes) ok)
+    ap (λ (r : Result (List TouchValue) FeedFault). r >>= λ touches. Ok (record { plan = plan; number = group.number; position = group.position; touches = touches })) (given (touches_of plan group.number group.changes) ok)
 
 -- ---- of a feed
 
@@ -96,7 +96,7 @@ sound-at feed number group kept plan whole at same_plan same_group ok =
       sound = sound;
       whole = group_whole feed number group (result_unwrap_or (touches_of feed.plan group.number group.changes) []) whole at (given (touches_of feed.plan group.number group.changes) sound);
     } in
-    subst (λ p. IsSoundGroup p kept) (sym same_plan) (subst (IsSoundGroup feed.plan) (sym same_group) here)
+    subst (λ (p : PlanValue). IsSoundGroup p kept) (sym same_plan) (subst (IsSoundGroup feed.plan) (sym same_group) here)
 
 -- it is prepared
 pub prepared-at : (feed : FeedValue) (number : ℕ) (group kept : PlannedGroupValue) (plan : PlanValue) → Some group ≡ group_at feed number → plan ≡ feed.plan → kept ≡ group
@@ -104,8 +104,8 @@ pub prepared-at : (feed : FeedValue) (number : ℕ) (group kept : PlannedGroupVa
 prepared-at feed number group kept plan at same_plan same_group ok =
     ap (prepared_if feed) (sym at)
     ∙ prepared-sound feed.plan group (is_given (touches_of feed.plan group.number group.changes) ok)
-    ∙ ap (λ p. Ok (with_touches p group)) (sym same_plan)
-    ∙ ap (λ g. Ok (with_touches plan g)) (sym same_group)
+    ∙ ap (λ (p : PlanValue). Ok (with_touches p group)) (sym same_plan)
+    ∙ ap (λ (g : PlannedGroupValue). Ok (with_touches plan g)) (sym same_group)
 
 -- a group that is refused isn't, and never for want of memory
 pub refused-at : (feed : FeedValue) (number : ℕ) (group : PlannedGroupValue) (fault : FeedFault) → Some group ≡ group_at feed number

@@ -8,6 +8,7 @@ ghost use Rattle.source_feed.specs.Private.FeedTables.{numbers_in};
 ghost use Rattle.source_feed.specs.Private.KeptChanges.{listed};
 ghost use Rattle.source_feed.specs.Private.KeptGroups.{numbered, numbered_group};
 ghost use Rattle.source_feed.specs.Private.RowCounts.{rows_in_change};
+ghost use Rattle.source_feed.specs.Private.TableRows.{table_of, rows_of};
 
 use crate::changes::Changes;
 use crate::fault::FeedFault;

@@ -46,7 +46,11 @@ fn are_same(mut touches: LentTouches<'_, '_>, mut others: LentTouches<'_, '_>) -
     loop {
         match (touches.next(), others.next()) {
             (None, None) => return true,
-            (Some(touch), Some(other)) if touch.same(&other) => {}
+            (Some(touch), Some(other)) => {
+                if !touch.same(&other) {
+                    return false;
+                }
+            }
             _ => return false,
         }
     }
@@ -73,7 +77,11 @@ fn are_same_on(mut touches: LentTouches<'_, '_>, mut others: LentTouches<'_, '_>
     loop {
         match (next_on(&mut touches, tables), next_on(&mut others, tables)) {
             (None, None) => return true,
-            (Some(touch), Some(other)) if touch.same(&other) => {}
+            (Some(touch), Some(other)) => {
+                if !touch.same(&other) {
+                    return false;
+                }
+            }
             _ => return false,
         }
     }
