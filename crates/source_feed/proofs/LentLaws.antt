@@ -1,5 +1,5 @@
 -- The touches of a sound group as they come one after another.
-use Rattle.std.proofs.Common.{◌≡◌, ◌∙◌, ℕ, List, [], ◌∷◌, ◌++◌, Option, None, Some, Result, Ok, Err, refl, sym, ap, subst}
+use Rattle.std.proofs.Common.{◌≡◌, ◌∙◌, ℕ, suc, List, [], ◌∷◌, ◌++◌, Option, None, Some, Result, Ok, Err, IfSome, refl, sym, ap, subst}
 use Rattle.std.proofs.lemmas.Bool.{true≢false}
 use Rattle.std.specs.Prelude.{IsOk}
 use Rattle.std.specs.Result.{result_err, result_unwrap_or}
@@ -9,7 +9,7 @@ use Rattle.source_feed.specs.declared.fault.FeedFault.{FeedFault}
 use Rattle.source_feed.specs.FaultNumber.{meant_of}
 use Rattle.source_feed.specs.Planned.{PlannedChangeValue, PlannedGroupValue, FeedValue, IsFeed}
 use Rattle.source_feed.specs.Touches.{TouchValue, group_at, prepared, prepared_if, prepared_at, put_of, touches_of_change, touches_of}
-use Rattle.source_feed.specs.Private.SoundGroup.{with_touches, IsSoundGroup, touches_left, touches_to_come, IsFirstTouch}
+use Rattle.source_feed.specs.Private.SoundGroup.{with_touches, IsSoundGroup, touches_left, touches_to_come, IsFirstTouch, IsRowUnder, AreToCome}
 use Rattle.source_feed.proofs.JudgedLaws.{refused_by, is_given, judged_at, meant_is}
 use Rattle.source_feed.proofs.PreparedLaws.{changes_under, group_whole}
 
@@ -72,9 +72,21 @@ module _ (plan : PlanValue) (group : ℕ) where
   change-refused change later fault is ok =
       not-refused (touches_to_come plan group None (change ∷ later)) fault (behind-none (touches_of plan group (change ∷ later)) ∙ ap (λ (r : Result (List TouchValue) FeedFault). both r (touches_of plan group later)) is) ok
 
+  -- what is to come stays sound: behind the row after, behind a change that is begun, and of a sound group from its first change
+  pub left-put : (t : ℕ) (row : List (Option (List ℕ))) (later : List PlannedChangeValue) (touch : TouchValue) → put_of plan group t row ≡ Ok touch
+      → AreToCome plan group (Some (t, row)) later → AreToCome plan group None later
+  left-put t row later touch is m = record { row = tt; under = m.under; sound = (put-next t row later touch is m.sound).0 }
+
+  pub left-change : (change : PlannedChangeValue) (later : List PlannedChangeValue) (begun : TouchValue × Option (ℕ × List (Option (List ℕ)))) → IsFirstTouch plan group change begun
+      → IfSome begun.1 (IsRowUnder plan) → AreToCome plan group None (change ∷ later) → AreToCome plan group begun.1 later
+  left-change change later begun is row m = record { row = row; under = λ j. m.under (suc j); sound = (change-next change later begun is m.sound).0 }
+
   -- all of them are those of the changes
   pub all-to-come : (changes : List PlannedChangeValue) → touches_to_come plan group None changes ≡ touches_of plan group changes
   all-to-come changes = behind-none (touches_of plan group changes)
+
+pub first-to-come : (plan : PlanValue) (group : PlannedGroupValue) → IsSoundGroup plan group → AreToCome plan group.number None group.changes
+first-to-come plan group m = record { row = tt; under = m.under; sound = subst IsOk (sym (all-to-come plan group.number group.changes)) m.sound }
 
 -- ---- of a group
 
