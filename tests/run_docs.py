@@ -10,12 +10,13 @@ page. Crates of tests and private definitions have no rows. A clause that README
 contract, and what docs/PROMISES.md names in a table as a contract is a function or a type of the crates. Every
 number of docs/FORMATS.md has a text of `vrepl explain`, and no other has one; a number that a definition gives, or that stands
 behind `refused`, is one of these. A list of docs/MAP.md of what a further
-vindex, event and so on gets has the files that the command over it finds, and no others. The pages in share/ are what
+vindex, event and so on gets has the files that the command over it finds, and no others; of those of a subcommand at most
+six are another one's too. The pages in share/ are what
 scripts/pages makes of the program in dist/, which is looked at where that is of these sources. What a CALLING.md quotes is
 what scripts/contracts makes of its crate's sources, docs/THEOREM.md is what scripts/theorem makes of them. The figures of
 docs/ and bench/ are those of bench/figures.json, into which a run's can be put, the sizes in docs/OPERATE.md those of the goals'
 run, and the change that CONTRIBUTING.md tells of can be made. What starts the program asks for large pages in the same words everywhere. The last line is 'N passed, M failed': one a
-document, one for the paths, the chapters, the lists, the texts, the numbers, the pages, the quotations, the figures, these words and the change.
+document, one for the paths, the chapters, the lists, the shared files, the texts, the numbers, the pages, the quotations, the figures, these words and the change.
 """
 import contextlib
 import functools
@@ -237,6 +238,22 @@ def further_faults():
         missing = (it for it in sorted(have - set(paths)) if WHOLE.match(it) and not it.startswith(tuple(below)))
         yield from (f"a further {kind}: {it} isn't in the list" for it in missing)
 
+
+
+# The words of another subcommand than that of the list: what has some of both was there before either.
+OTHER = re.compile(r"(?<!\w)(?:Feed|feed_command|feed_subcommand|asks_feed|FeedInputs|vrepl_feed)(?!\w)")
+MOST = 6
+
+
+def shared_faults():
+    """Of the files that a further subcommand touches at most six are there already."""
+    texts = tree()
+    for kind, words, paths in further_lists():
+        if kind == "subcommand":
+            shared = [it for it in paths if it in texts and OTHER.search(texts[it])]
+            yield from (f"{len(shared)} files are there already: {it}" for it in shared if len(shared) > MOST)
+
+
 # What names all vindexes, column types or events, beside the files in which the compiler asks for a case each.
 ALL_VINDEXES = """crates/vindex/src/vindexes.rt crates/workflow_check/src/passing.rt crates/tiles_said/src/shares.rt
     crates/workflow_places/src/filter_form.rt crates/reading_tests/src/plans/ranges.rt include/vrepl.h docs/FORMATS.md
@@ -412,7 +429,7 @@ def is_released():
 
 def main():
     failed = 0
-    checks = {"docs/MAP.md": map_faults, "docs/DEFINITIONS.md": definition_faults, "docs/PROMISES.md": promise_faults, "docs/THEOREM.md": theorem_faults, "contracts": contract_faults, "paths": path_faults, "chapters": chapter_faults, "docs/MAP.md, to add something": further_faults, "one list of a kind": kind_faults, "explain": explanation_faults, "numbers": number_faults, "quotations": quotation_faults, "figures": figure_faults, "large pages": setting_faults, "examples/first_change.patch": first_change_faults}
+    checks = {"docs/MAP.md": map_faults, "docs/DEFINITIONS.md": definition_faults, "docs/PROMISES.md": promise_faults, "docs/THEOREM.md": theorem_faults, "contracts": contract_faults, "paths": path_faults, "chapters": chapter_faults, "docs/MAP.md, to add something": further_faults, "a further subcommand": shared_faults, "one list of a kind": kind_faults, "explain": explanation_faults, "numbers": number_faults, "quotations": quotation_faults, "figures": figure_faults, "large pages": setting_faults, "examples/first_change.patch": first_change_faults}
     if is_released():
         checks["pages"] = page_faults
     for name, check in checks.items():

@@ -1,20 +1,29 @@
 -- What the commands leave that print what their inputs make, each by its own words.
+pub mod Checked
+pub mod Compacted
+pub mod Compared
+pub mod Explained
+pub mod Fed
+pub mod Run
+pub mod Shown
+pub mod Stated
+pub mod Tiled
+pub mod Transcribed
 use Rattle.std.specs.Prelude.{◌≡◌, ℕ, None, ◌∷◌, ◌++◌, [], map}
 use Rattle.printing.specs.Printing.{Written}
 use Rattle.vrepl_main.specs.Inputs.{IsUnread, IsUnreadAmong}
 use Rattle.vrepl_main.specs.Running.{opened_asked, RunEnds}
 use Rattle.vrepl_main.specs.declared.input.InputName.TheVariants.{File, Standard}
-use Rattle.vrepl_main.specs.declared.named_inputs.RunCourse.{RunCourse}
 use Rattle.vrepl_main.specs.declared.refusal.CommandRefusal.{CommandRefusal}
 use Rattle.vrepl_choices.specs.declared.report_form.ReportForm.{ReportForm}
 use Rattle.vrepl_choices.specs.declared.report_form.ReportForm.TheVariants.{Lines}
-use Rattle.vrepl_words.specs.declared.commands.run.Run.{Run}
 use Rattle.vrepl_words.specs.declared.commands.Words.{Words}
 use Rattle.vrepl_words.specs.declared.commands.Words.TheVariants as ways
-use Rattle.vrepl.specs.Compacted.{IsCompactAsked}
-use Rattle.vrepl.specs.Compared.{asks_more, ComparedEnds, IsVdiffAsked}
-use Rattle.vrepl.specs.Fed.{IsFeedAsked, feed_inputs}
-use Rattle.vrepl.specs.Shown.{text_asked}
+use Rattle.vrepl.specs.Answered.Compacted.{IsCompactAsked}
+use Rattle.vrepl.specs.Answered.Compared.{asks_more, ComparedEnds, IsVdiffAsked}
+use Rattle.vrepl.specs.Answered.Fed.{IsFeedAsked, feed_inputs}
+use Rattle.vrepl.specs.Answered.Run.{IsCourseOf}
+use Rattle.vrepl.specs.Answered.Shown.{text_asked}
 use Rattle.vrepl.specs.declared.answering.Asked.{Asked}
 use Rattle.vrepl.specs.declared.answering.Asked.TheVariants as asked
 use Rattle.vrepl_main.specs.ScriptRun.{script_asked}
@@ -22,9 +31,9 @@ use Rattle.vrepl_main.specs.JoinedRun.{JoinEnds}
 use Rattle.vrepl_main.specs.Replied.{StepEnds}
 use Rattle.vrepl_main.specs.ResumedRun.{ResumeEnds}
 use Rattle.vrepl_main.specs.SavedBoard.{SaveEnds}
-use Rattle.vrepl.specs.Checked.{IsCheckAsked, ReportEnds}
-use Rattle.vrepl.specs.Stated.{IsStatusAsked, StatusEnds}
-use Rattle.vrepl.specs.Tiled.{TilesEnds}
+use Rattle.vrepl.specs.Answered.Checked.{IsCheckAsked, ReportEnds}
+use Rattle.vrepl.specs.Answered.Stated.{IsStatusAsked, StatusEnds}
+use Rattle.vrepl.specs.Answered.Tiled.{TilesEnds}
 use Rattle.vrepl_compact.specs.Compacted.{CompactEnds}
 use Rattle.vrepl_feed.specs.Fed.{FeedEnds}
 use Rattle.vrepl_refusal.specs.Form.{TextEndsAs}
@@ -44,11 +53,6 @@ IsAnswering (ways.Status words) = Unit {0}
 IsAnswering (ways.Compact words) = words.save_to ≡ None
 IsAnswering (ways.Feed words) = Unit {0}
 IsAnswering words = ⊥
-
--- the streams are run as the words ask for it: one after another or in threads, and in these portions
-abbrev pub IsCourseOf : Run → RunCourse → Type 0
-IsCourseOf words course =
-    (course.threading ≡ words.threading) × (course.policy.rows ≡ words.portions.rows) × (course.policy.ahead ≡ words.portions.ahead) × (course.policy.chunks ≡ words.portions.chunks)
 
 -- the words ask for just this, with what was read of the files that they name
 abbrev pub IsAskedBy : Words → Asked → Type 0

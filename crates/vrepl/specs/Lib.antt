@@ -1,11 +1,2 @@
 pub mod Answered
-pub mod Checked
-pub mod Compacted
-pub mod Compared
-pub mod Explained
-pub mod Fed
 pub mod Kept
-pub mod Shown
-pub mod Stated
-pub mod Tiled
-pub mod Transcribed

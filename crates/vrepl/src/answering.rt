@@ -1,36 +1,137 @@
-//! The commands that print what their inputs make, and do no more.
+//! The commands: what each reads, makes of it and prints, and what is told of it meanwhile.
+//!
+//! Each command has a file with its inputs and its call, where that is more than a line. Here is the list of all.
+
+pub(crate) mod checking;
+pub(crate) mod compacting;
+pub(crate) mod comparing;
+pub(crate) mod explaining;
+pub(crate) mod feeding;
+pub(crate) mod following;
+pub(crate) mod joining;
+pub(crate) mod living;
+pub(crate) mod resuming;
+pub(crate) mod running;
+pub(crate) mod saving;
+pub(crate) mod showing;
+pub(crate) mod stating;
+pub(crate) mod stepping;
+pub(crate) mod tiling;
+pub(crate) mod transcribing;
 
 ghost use Rattle.std.specs.Prelude.{◌≡◌, ◌≤◌, ◌⊎◌, IfErr, IfOk};
-ghost use Rattle.vrepl.specs.Answered.{AnswerEnds, IsAnswering, IsAskedBy, IsUnreadFor};
+ghost use Rattle.vrepl.specs.Answered.{AnswerEnds, IsAnswering, IsAskedBy, IsUnreadFor, report_form_asked};
 
-use crate::checking::{read_check, report};
-use crate::compacting::read_compact;
-use crate::comparing::{compare, read_vdiff};
-use crate::feeding::read_feed;
+use crate::answering::checking::{read_check, report};
+use crate::answering::compacting::{compact_to, read_compact};
+use crate::answering::comparing::{compare, read_vdiff};
+use crate::answering::explaining::run_explain;
+use crate::answering::feeding::read_feed;
+use crate::answering::following::run_follow;
+use crate::answering::joining::{files_of, join_to};
+use crate::answering::living::run_live;
+use crate::answering::running::{course_of, reporter_of};
+use crate::answering::saving::save_to;
+use crate::answering::showing::show_feed;
+use crate::answering::stating::{StatusInputs, read_status, state};
+use crate::answering::stepping::read_steps;
+use crate::answering::tiling::tile;
+use crate::answering::transcribing::run_transcribe;
 use crate::files::{FileInputs, read_files};
-use crate::reporting::Reporter;
-use crate::stating::{StatusInputs, read_status, state};
 use crate::telling::{Hushing, Teller};
-use crate::tiling::tile;
-use crate::{course_of, show_feed};
 use pace::Meter;
 use printing::{Out, Writer};
-use std::alloc::{AllocError, Global};
+use std::alloc::Global;
 use std::sync::Wait;
 use std::thread::Threads;
 use vrepl_check::CheckInputs;
+use vrepl_choices::ReportForm;
 use vrepl_compact::{CompactInputs, compact};
 use vrepl_feed::{FeedInputs, feed};
 use vrepl_main::{
-    CommandRefusal, InputName, Inputs, JoinFiles, JoinInputs, Progress, ResumeInputs, RunInputs,
-    Untold, join, read_input, read_join, read_resume, read_run, read_step, resume, run, save, step,
+    CommandRefusal, InputName, Inputs, JoinInputs, Progress, ResumeInputs, RunInputs, Untold, join,
+    read_input, read_join, read_resume, read_run, resume, run, save, step,
 };
+use vrepl_refusal::refuse_as;
 use vrepl_vdiff::VdiffInputs;
 use vrepl_words::commands::Words;
-use vrepl_words::commands::join::Join;
 use vrepl_words::commands::show::Show;
 
-/// What such a command is asked for, with what was read of its inputs.
+/// Runs what the words ask for, and answers the status. Where they ask for that, it is told meanwhile how far it is.
+pub(crate) fn run_command<T: Threads + Wait + Sync>(
+    rt: &HostRuntime,
+    threads: &T,
+    words: &Words<'_>,
+) -> u8
+    ensures status { result ≤ 3 }
+{
+    let teller = teller_of(rt, threads, words);
+    let ended = match words {
+        Words::Show(_)
+        | Words::Step(_)
+        | Words::Run(_)
+        | Words::Resume(_)
+        | Words::Vdiff(_)
+        | Words::Check(_)
+        | Words::Tiles(_)
+        | Words::Status(_)
+        | Words::Feed(_) => run_answering(rt, threads, &teller, words),
+        Words::Save(save) => match save.save_to {
+            Some(file) => save_to(rt, save, file),
+            None => run_answering(rt, threads, &teller, words),
+        },
+        Words::Join(join) => match join.save_to {
+            Some(file) => join_to(rt, &teller, join, file),
+            None => run_answering(rt, threads, &teller, words),
+        },
+        Words::Compact(compact) => match compact.save_to {
+            Some(file) => compact_to(rt, &teller, compact, file),
+            None => run_answering(rt, threads, &teller, words),
+        },
+        Words::Follow(words) => run_follow(rt, threads, words),
+        Words::Live(words) => run_live(rt, threads, words),
+        Words::Transcribe(words) => run_transcribe(rt, words),
+        Words::Explain(words) => Ok(run_explain(rt, words)),
+    };
+    teller.ends();
+    match ended {
+        Ok(status) => status,
+        Err(refusal) => refuse_as(
+            report_form_of(words),
+            &mut Writer::new(rt.stderr()),
+            &refusal,
+            None,
+        ),
+    }
+}
+
+/// How the words ask that a refusal is printed: as JSON where a report is.
+fn report_form_of(words: &Words<'_>) -> ReportForm
+    ensures { result ≡ report_form_asked words.now }
+{
+    match words {
+        Words::Show(words) => words.report_form,
+        Words::Vdiff(words) => words.report_form,
+        Words::Check(words) => words.report_form,
+        Words::Status(words) => words.report_form,
+        Words::Explain(words) => words.report_form,
+        _ => ReportForm::Lines,
+    }
+}
+
+/// What tells how far the command is, where it may take seconds.
+fn teller_of<'r, T: Threads>(rt: &'r HostRuntime, threads: &T, words: &Words<'_>) -> Teller<'r> {
+    match words {
+        Words::Resume(words) => Teller::of_command(rt, threads, words),
+        Words::Join(words) => Teller::of_command(rt, threads, words),
+        Words::Vdiff(words) => Teller::of_command(rt, threads, words),
+        Words::Check(words) => Teller::of_command(rt, threads, words),
+        Words::Compact(words) => Teller::of_command(rt, threads, words),
+        _ => Teller::silent(rt),
+    }
+}
+
+/// What a command is asked for that prints what its inputs make and does no more, with what was read of its inputs.
 #[derive(Drop)]
 pub(crate) enum Asked<'a, 'w> {
     /// `show` of a feed.
@@ -60,7 +161,7 @@ pub(crate) enum Asked<'a, 'w> {
 }
 
 /// Reads the inputs of such a command, and prints what it makes of them.
-pub(crate) fn run_answering<'w, T: Threads + Wait + Sync>(
+fn run_answering<'w, T: Threads + Wait + Sync>(
     rt: &HostRuntime,
     threads: &T,
     teller: &Teller<'_>,
@@ -81,17 +182,6 @@ pub(crate) fn run_answering<'w, T: Threads + Wait + Sync>(
     }
 }
 
-/// What tells how far streams are, where that is asked for.
-fn reporter_of<'r>(
-    rt: &'r HostRuntime,
-    words: &Words<'_>,
-) -> Result<Option<Reporter<'r>>, AllocError> {
-    match words {
-        Words::Run(run) => Reporter::asked(rt, run),
-        _ => Ok(None),
-    }
-}
-
 /// Reads the inputs that the words name, each by its name, in the order of their command.
 fn read_asked<'a, 'w>(
     rt: &HostRuntime,
@@ -107,10 +197,7 @@ fn read_asked<'a, 'w>(
             let feed = read_input(rt, &Untold, InputName::of_word(words.feed))?;
             Ok(Asked::Show(words, feed))
         }
-        Words::Step(words) => {
-            let inputs = read_step(rt, &Untold, words.feed_form, words.workflow, &words.feeds)?;
-            Ok(Asked::Step(inputs))
-        }
+        Words::Step(words) => { Ok(Asked::Step(read_steps(rt, words)?)) }
         Words::Run(words) => {
             let course = course_of(words);
             let form = words.feed_form;
@@ -118,11 +205,7 @@ fn read_asked<'a, 'w>(
             let inputs = read_run(rt, course, form, words.workflow, &words.feeds, until)?;
             Ok(Asked::Run(inputs))
         }
-        Words::Save(words) => {
-            let step = &words.step;
-            let inputs = read_step(rt, &Untold, step.feed_form, step.workflow, &step.feeds)?;
-            Ok(Asked::Save(words.strict, inputs))
-        }
+        Words::Save(words) => { Ok(Asked::Save(words.strict, read_steps(rt, &words.step)?)) }
         Words::Resume(words) => {
             let step = &words.step;
             let inputs = read_resume(
@@ -146,21 +229,6 @@ fn read_asked<'a, 'w>(
         Words::Compact(words) => Ok(Asked::Compact(read_compact(rt, teller, words)?)),
         Words::Feed(words) => Ok(Asked::Feed(read_feed(rt, words)?)),
         _ => unreachable!(),
-    }
-}
-
-/// The files that the words of `join` name.
-pub(crate) fn files_of<'n, 'w>(words: &'n Join<'w>) -> JoinFiles<'n, 'w>
-    ensures workflow { result.workflow ≡ words.entry.now.workflow }
-    ensures checkpoints { (result.one ≡ words.entry.now.one) × (result.other ≡ words.entry.now.other) × (result.more.now ≡ words.entry.now.more.items) }
-    ensures feeds { result.feeds.now ≡ words.entry.now.feeds.items }
-{
-    JoinFiles {
-        workflow: words.workflow,
-        one: words.one,
-        other: words.other,
-        more: &words.more,
-        feeds: &words.feeds,
     }
 }
 

@@ -1,21 +1,10 @@
 //! Checkpoints that take the place of a file.
 
-ghost use Rattle.std.specs.Prelude.{◌≡◌, ◌≤◌, IfErr, IfOk};
+ghost use Rattle.std.specs.Prelude.{IfErr};
 ghost use Rattle.vrepl.specs.Kept.{IsUnkept, IsUnplaced};
 
-use crate::answering::files_of;
-use crate::telling::Teller;
 use kept_file::{KeepFault, Place, PlaceFault};
-use printing::Writer;
-use vrepl_main::{
-    CommandRefusal, Untold, joined_checkpoint, read_join, read_step, refuse, refuse_unjoined,
-    saved_checkpoint, tell_refused,
-};
-use vrepl_words::commands::join::Join;
-use vrepl_words::commands::save::Save;
-
-/// The file behind standard input, where the system has names for such.
-const STANDARD_INPUT: &str = "/dev/stdin";
+use vrepl_main::CommandRefusal;
 
 /// Where a command keeps its checkpoint, or that the words name no such place, which was told.
 #[derive(Drop)]
@@ -84,54 +73,5 @@ pub(crate) fn unkept(file: &str, fault: KeepFault) -> CommandRefusal<'_>
         KeepFault::Changed => CommandRefusal::Changed { file },
         KeepFault::CannotWrite => CommandRefusal::CannotWrite { file },
         KeepFault::Memory => CommandRefusal::Memory,
-    }
-}
-
-/// `save` into the file of this name.
-pub(crate) fn save_to<'w>(
-    rt: &HostRuntime,
-    words: &Save<'w>,
-    file: &'w str,
-) -> Result<u8, CommandRefusal<'w>>
-    ensures status { IfOk result (λ status. status ≤ 2) }
-{
-    let step = &words.step;
-    let Keeping::In(place) = place_of(rt, file, step.workflow, &step.feeds, &[STANDARD_INPUT])?
-    else {
-        return Ok(2);
-    };
-    let inputs = read_step(rt, &Untold, step.feed_form, step.workflow, &step.feeds)?;
-    match saved_checkpoint(rt.alloc(), &inputs) {
-        Ok(saved) => {
-            keep(rt, &place, file, &saved.checkpoint)?;
-            Ok(tell_refused(&mut Writer::new(rt.stderr()), &saved, words.strict))
-        }
-        Err(refusal) => Ok(refuse(&mut Writer::new(rt.stderr()), &refusal)),
-    }
-}
-
-/// `join` into the file of this name.
-pub(crate) fn join_to<'w>(
-    rt: &HostRuntime,
-    teller: &Teller<'_>,
-    words: &Join<'w>,
-    file: &'w str,
-) -> Result<u8, CommandRefusal<'w>>
-    ensures status { IfOk result (λ status. status ≤ 2) }
-{
-    let Keeping::In(place) = place_of(rt, file, words.workflow, &words.feeds, &[])? else {
-        return Ok(2);
-    };
-    let inputs = read_join(rt, teller, words.feed_form, &files_of(words))?;
-    teller.has_all();
-    match joined_checkpoint(rt.alloc(), &inputs, teller) {
-        Ok(checkpoint) => {
-            keep(rt, &place, file, &checkpoint)?;
-            Ok(0)
-        }
-        Err(unjoined) => {
-            teller.ends();
-            Ok(refuse_unjoined(&mut Writer::new(rt.stderr()), &unjoined))
-        }
     }
 }

@@ -13,7 +13,7 @@ use std::thread::Threads;
 use std::time::{Duration, Instant};
 use std::{fs, thread};
 use vrepl_main::Reading;
-use vrepl_words::commands::Words;
+use vrepl_words::choices::Telling;
 
 /// The milliseconds between two looks at the work.
 const LOOK: u64 = 250;
@@ -26,6 +26,21 @@ const TAKEN: u64 = 1;
 
 /// No line is written any more.
 const GONE: u64 = 2;
+
+/// A command that may take seconds, of which it is told meanwhile how far it is.
+pub(crate) trait Lasting {
+    /// Whether that is asked for.
+    fn telling(&self) -> Telling;
+
+    /// What it does once its inputs are read, and what the parts of that are.
+    fn doing(&self) -> (&'static str, Parts);
+
+    /// Whether it reads standard input: a line would come between what is typed on a terminal.
+    fn reads_standard(&self) -> bool;
+
+    /// How many bytes its files have, standard input aside; none where one of them is no regular file.
+    fn size(&self, rt: &HostRuntime) -> Option<u64>;
+}
 
 /// The work of a command, as it and the thread that tells of it see it.
 #[derive(Drop)]
@@ -153,17 +168,22 @@ pub(crate) struct Teller<'r> {
 }
 
 impl<'r> Teller<'r> {
-    /// That of the words' command. Nothing is told where memory or a thread is refused.
-    pub(crate) fn asked<T: Threads>(
+    /// That of a command that lasts. Nothing is told where memory or a thread is refused.
+    pub(crate) fn of_command<T: Threads, L: Lasting>(
         rt: &'r HostRuntime,
         threads: &T,
-        words: &Words<'_>,
+        command: &L,
     ) -> Teller<'r> {
-        let work = match work_of(rt, words) {
+        let work = match work_of(rt, command) {
             None => None,
             Some(work) => watched(rt, threads, work),
         };
         Teller { rt, work }
+    }
+
+    /// That of any other command: nothing is told.
+    pub(crate) fn silent(rt: &'r HostRuntime) -> Teller<'r> {
+        Teller { rt, work: None }
     }
 
     /// All inputs were read.
@@ -236,24 +256,17 @@ fn watched<T: Threads>(rt: &HostRuntime, threads: &T, work: Work) -> Option<Arc<
     Some(ours)
 }
 
-/// The work that the words ask for, where it is to be told of.
-fn work_of(rt: &HostRuntime, words: &Words<'_>) -> Option<Work> {
-    let (telling, name, parts) = match words {
-        Words::Check(words) => (words.telling, "checking", Parts::Many("groups")),
-        Words::Vdiff(words) => (words.telling, "comparing", Parts::Many("rows")),
-        Words::Resume(words) => (words.telling, "resuming", Parts::Few),
-        Words::Join(words) => (words.telling, "joining", Parts::Few),
-        Words::Compact(words) => (words.telling, "compacting", Parts::Many("groups")),
-        _ => return None,
-    };
-    let page = Page::asked(rt, telling)?;
-    if page.is_drawn() && is_typed(rt, words) {
+/// The work of a command, where it is to be told of.
+fn work_of<L: Lasting>(rt: &HostRuntime, command: &L) -> Option<Work> {
+    let page = Page::asked(rt, command.telling())?;
+    if page.is_drawn() && command.reads_standard() && rt.stdin().is_terminal() {
         return None;
     }
+    let (name, parts) = command.doing();
     Some(Work {
         page,
         name,
-        size: size_of(rt, words),
+        size: command.size(rt),
         begun: Instant::now(rt).ok(),
         read: AtomicU64::new(0),
         is_read: AtomicBool::new(false),
@@ -263,36 +276,13 @@ fn work_of(rt: &HostRuntime, words: &Words<'_>) -> Option<Work> {
     })
 }
 
-/// Whether an input is typed on a terminal, where a line would come between.
-fn is_typed(rt: &HostRuntime, words: &Words<'_>) -> bool {
-    let is_read = match words {
-        Words::Resume(_) => true,
-        Words::Vdiff(words) => words.source == "-" || words.target == "-",
-        _ => false,
-    };
-    is_read && rt.stdin().is_terminal()
-}
-
-/// How many bytes the files have that the words name, standard input aside; none where one of them is no regular file.
-fn size_of(rt: &HostRuntime, words: &Words<'_>) -> Option<u64> {
-    match words {
-        Words::Check(words) => sum(rt, &[words.step.workflow], &words.step.feeds, &[]),
-        Words::Resume(words) => {
-            let step = &words.step;
-            sum(rt, &[words.checkpoint, step.workflow], &step.feeds, &[])
-        }
-        Words::Vdiff(words) => sum(rt, &[words.workflow], &[words.source, words.target], &[]),
-        Words::Join(words) => {
-            let files = &[words.workflow, words.one, words.other];
-            sum(rt, files, &words.more, &words.feeds)
-        }
-        Words::Compact(words) => { sum(rt, &[words.workflow, words.feed], &words.checkpoints, &[]) }
-        _ => None,
-    }
-}
-
-/// The bytes of all these files.
-fn sum(rt: &HostRuntime, some: &[&str], more: &[&str], others: &[&str]) -> Option<u64> {
+/// How many bytes all these files have, standard input aside; none where one of them is no regular file.
+pub(crate) fn size_of(
+    rt: &HostRuntime,
+    some: &[&str],
+    more: &[&str],
+    others: &[&str],
+) -> Option<u64> {
     let size = sum_behind(rt, 0, some)?;
     let size = sum_behind(rt, size, more)?;
     sum_behind(rt, size, others)

@@ -3,7 +3,7 @@ use Rattle.printing.specs.Printing.{Written}
 use Rattle.vrepl_main.proofs.CommandLaws.{ends_within}
 use Rattle.vrepl_vdiff.specs.declared.inputs.VdiffInputs.{VdiffInputs}
 use Rattle.vrepl.specs.Answered.{AnswerEnds}
-use Rattle.vrepl.specs.Compared.{ComparedEnds, asks_more}
+use Rattle.vrepl.specs.Answered.Compared.{ComparedEnds, asks_more}
 use Rattle.vrepl.specs.declared.answering.Asked.{Asked}
 use Rattle.vrepl.proofs.answering.answer.Goals as goal
 
